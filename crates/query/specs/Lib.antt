@@ -1,0 +1,5 @@
+pub mod Syntax
+pub mod Meaning
+pub mod Kind
+pub mod Table
+pub mod Fault

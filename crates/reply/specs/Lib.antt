@@ -1,0 +1,3 @@
+pub mod Reply
+pub mod Bytes
+pub mod Outcome

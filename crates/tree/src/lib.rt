@@ -1,0 +1,1 @@
+// Trees in document order: definitions and laws, and no code.

@@ -1,0 +1,4 @@
+pub mod Annotation
+pub mod Visible
+pub mod View
+pub mod Promise
