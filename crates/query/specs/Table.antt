@@ -80,8 +80,8 @@ operandHeight before (of s) x = getD before x 0
 unfoldable pub height : List ℕ → Entry → ℕ
 height before e =
     elim (rowOf (e .kind)) [
-      none ↦ 1
-    | some row ↦ suc (max (operandHeight before (row .left) (e .left)) (operandHeight before (row .right) (e .right)))
+      | none ↦ 1
+      | some row ↦ suc (max (operandHeight before (row .left) (e .left)) (operandHeight before (row .right) (e .right)))
     ]
 
 unfoldable pub heightAt : Entries → ℕ → ℕ

@@ -1,7 +1,6 @@
 -- What call 5, "rewrite", promises. Its bytes and its count are free; its meaning and its bounds are not.
-use Prim.Native.Nat.{ℕ, _<_}
+use Prim.Native.Nat.{ℕ}
 use mathlib.Core.Path.{_≡_}
-use mathlib.Core.Logic.{_↔_}
 use mathlib.Core.List.{_++_}
 use lib.ListN.{length}
 use Rattle.reply.specs.Reply.{Said}
@@ -10,17 +9,11 @@ use Rattle.reply.specs.Outcome.{InTurn, Outcome}
 use Rattle.tree.specs.Tree.{Tree}
 use Rattle.roll.specs.Roll.{nodes, Roll}
 use Rattle.query.specs.Syntax.{Path}
-use Rattle.query.specs.Meaning.{reach}
 use Rattle.query.specs.Table.{entries, queryOf}
 use Rattle.query.specs.Fault.{curators, answered, Query, QueryFault}
-use Rattle.view.specs.View.{Position, View}
+use Rattle.view.specs.View.{View}
+use Rattle.view.specs.Same.{SameOnView}
 use Rattle.view.specs.Promise.{Seen, Annotated, AnnotatedFault}
-
--- p on the tree t does what q does on the view v: from every visible node p reaches exactly the nodes at the view positions that q
--- reaches, and so no hidden node.
-unfoldable pub SameOnView : Tree → (ℕ → Type 0) → Tree → Path → Path → Type 0
-SameOnView t Seen v p q =
-    (i a j : ℕ) → i < length t → Position Seen i a → reach t p i j ↔ ((b : ℕ) × (j < length t) × Position Seen j b × reach v q a b)
 
 -- Demand 3: "On every accepted roll, from every visible node, it reaches exactly what her query reaches on the cut-out view, and no
 -- hidden node."

@@ -1,4 +1,5 @@
 pub mod Annotation
 pub mod Visible
 pub mod View
+pub mod Same
 pub mod Promise
