@@ -30,7 +30,7 @@ is-node b i h =
     record {
       label = record { least = leb→le 1 l (passed 0); most = leb→le l 64 (passed 1) };
       second = eqb→eq (secondByte b i) 0 (passed 2);
-      parent = has-parent (nodes b) i (passed 3)
+      parent = has-parent (nodes b) i (passed 3);
     }
 
 rollTests : Bytes → List Bool
@@ -47,7 +47,7 @@ is-roll b h =
     let passed = all-at (rollTests b) h in
     record {
       size = record { some = leb→le 1 n (passed 0); size = record { multiple = eqb→eq (n % 4) 0 (passed 1); most = leb→le n 16384 (passed 2) } };
-      node = λ i l. is-node b i (every-right (length (nodes b)) (λ i. all (nodeTests b i)) .0 (passed 3) i l)
+      node = λ i l. is-node b i (every-right (length (nodes b)) (λ i. all (nodeTests b i)) .0 (passed 3) i l);
     }
 
 -- "So the table is in document order"

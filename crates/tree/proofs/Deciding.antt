@@ -41,15 +41,14 @@ everyBelow (suc n) test = test n && everyBelow n test
 pub every-right : (n : ℕ) (test : ℕ → Bool) → T (everyBelow n test) ↔ ((i : ℕ) → i < n → T (test i))
 unfolding everyBelow
 every-right zero test = (λ x i l. absurd (omega arith), λ h. tt)
-every-right (suc n) test =
-    (
-      λ x i l.
-        ⊎-elim
-        (λ e. subst (λ (k : ℕ). T (test k)) (sym e) (both-left (test n) (everyBelow n test) x))
-        (λ k. every-right n test .0 (both-right (test n) (everyBelow n test) x) i k)
-        (eq-or-lt-of-le (last i l)),
-      λ h. both (test n) (everyBelow n test) (h n (omega arith)) (every-right n test .1 (λ i l. h i (omega arith))),
-    )
+every-right (suc n) test = (
+  λ x i l.
+      ⊎-elim
+      (λ e. subst (λ (k : ℕ). T (test k)) (sym e) (both-left (test n) (everyBelow n test) x))
+      (λ k. every-right n test .0 (both-right (test n) (everyBelow n test) x) i k)
+      (eq-or-lt-of-le (last i l)),
+  λ h. both (test n) (everyBelow n test) (h n (omega arith)) (every-right n test .1 (λ i l. h i (omega arith))),
+)
   where
     last : (i : ℕ) → i < suc n → i ≤ n
     last i l = omega arith
