@@ -1,1 +1,5 @@
+pub mod Nearest
+pub mod Positions
+pub mod Carried
 pub mod Deciding
+pub mod Cutting

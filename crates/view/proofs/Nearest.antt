@@ -1,0 +1,83 @@
+-- Nearest visible proper ancestors: each node but the root has one and no second, and no visible ancestor stands between. And the next
+-- visible node with the same nearest visible ancestor. Assumes nothing.
+use Prim.Native.Nat.{ℕ, zero, suc, _≤_, _<_}
+use native.Mathlib.Nat.{le-refl, pos-of-ne-zero}
+use native.Mathlib.Omega.{arith}
+use mathlib.Core.Path.{_≡_, refl, sym, subst}
+use lib.ListN.{length}
+use Rattle.tree.specs.Tree.{Tree, parentAt, Child, Above, here, up, InOrder}
+use Rattle.tree.proofs.Order.{above-trans, child-above, parent-smaller}
+use Rattle.view.specs.View.{Nearest, parent, beyond}
+
+-- j is the next visible node behind i with the nearest visible ancestor that i has.
+pub record NextSeen (t : Tree) (Seen : ℕ → Type 0) (i j : ℕ) : Type 0 where
+  pub above : ℕ
+  pub left : Nearest t Seen i above
+  pub right : Nearest t Seen j above
+  pub order : i < j
+  pub node : j < length t
+  pub visible : Seen j
+  pub between : (m : ℕ) → i < m → m < j → Seen m → ¬ Nearest t Seen m above
+
+-- a proper ancestor of a child is above its parent
+pub above-parent : {t : Tree} {a p i : ℕ} → Above t a i → ¬ (a ≡ i) → Child t p i → Above t a p
+above-parent here n c = absurd (n refl)
+above-parent {t} {a} (up z x) n c = subst (λ (q : ℕ). Above t a q) (c .parent) x
+
+module _ {t : Tree} {Seen : ℕ → Type 0} where
+  -- there is no second one
+  pub nearest-unique : {i p q : ℕ} → Nearest t Seen i p → Nearest t Seen i q → p ≡ q
+  nearest-unique (parent c s) (parent d r) = cc
+  nearest-unique (parent c s) (beyond d n y) = absurd (n (subst Seen (cc) s))
+  nearest-unique (beyond c n x) (parent d r) = absurd (n (subst Seen (cc) r))
+  nearest-unique {q} (beyond c n x) (beyond d m y) = nearest-unique x (subst (λ (k : ℕ). Nearest t Seen k q) (cc) y)
+
+  pub nearest-seen : {i p : ℕ} → Nearest t Seen i p → Seen p
+  nearest-seen (parent c s) = s
+  nearest-seen (beyond c n x) = nearest-seen x
+
+  pub nearest-above : {i p : ℕ} → Nearest t Seen i p → Above t p i
+  nearest-above (parent c s) = child-above t c
+  nearest-above (beyond c n x) = above-trans t (nearest-above x) (child-above t c)
+
+  -- only a node has one
+  pub nearest-node : {i p : ℕ} → Nearest t Seen i p → i < length t
+  nearest-node (parent c s) = c .node
+  nearest-node (beyond c n x) = c .node
+
+  -- every visible proper ancestor is above the nearest one
+  pub nearest-below : {a i p : ℕ} → Seen a → Above t a i → ¬ (a ≡ i) → Nearest t Seen i p → Above t a p
+  nearest-below s x n (parent c r) = above-parent x n c
+  nearest-below s x n (beyond c h y) = nearest-below s (above-parent x n c) (λ e. h (subst Seen e s)) y
+
+module _ {t : Tree} {Seen : ℕ → Type 0} (o : InOrder t) where
+  -- it has a smaller record number
+  pub nearest-less : {i p : ℕ} → Nearest t Seen i p → p < i
+  nearest-less {i} (parent c s) =
+      let h : parentAt t i < i = parent-smaller t o i (c .later) (c .node) in
+      omega arith
+  nearest-less {i} {p} (beyond {q} c n x) =
+      let h : parentAt t i < i = parent-smaller t o i (c .later) (c .node) in
+      let k : p < q = nearest-less x in
+      omega arith
+
+  module _ (dec : (i : ℕ) → Dec (Seen i)) (root : Seen 0) where
+    -- up to n, every node but the root has one: its parent or, where that is hidden, the parent's
+    exists-upto : (n i : ℕ) → i ≤ n → 0 < i → i < length t → (p : ℕ) × Nearest t Seen i p
+    exists-upto zero i b z l = absurd (omega arith)
+    exists-upto (suc n) i b z l =
+        let less : parentAt t i < i = parent-smaller t o i z l in
+        go (dec (parentAt t i)) (λ y. exists-upto n (parentAt t i) (omega arith) y (omega arith))
+      where
+        child : Child t (parentAt t i) i
+        child = record { later = z; node = l; parent = refl }
+
+        go : Dec (Seen (parentAt t i)) → (0 < parentAt t i → (p : ℕ) × Nearest t Seen (parentAt t i) p) → (p : ℕ) × Nearest t Seen i p
+        go (yes s) further = (parentAt t i, parent child s)
+        go (no h) further =
+            let r = further (pos-of-ne-zero (λ e. h (subst Seen (sym e) root))) in
+            (r .0, beyond child h (r .1))
+
+    -- every node but the root has one
+    pub nearest-exists : (i : ℕ) → 0 < i → i < length t → (p : ℕ) × Nearest t Seen i p
+    nearest-exists i = exists-upto i i (le-refl i)
