@@ -10,6 +10,7 @@ use lib.ListN.{length}
 use Rattle.tree.specs.Tree.{Tree, parentAt, Child, Above, here, up, InOrder}
 
 module _ (t : Tree) where
+  -- what is above an ancestor is an ancestor
   pub above-trans : {a b c : ℕ} → Above t a b → Above t b c → Above t a c
   above-trans x here = x
   above-trans x (up z y) = up z (above-trans x y)
@@ -57,7 +58,7 @@ module _ (t : Tree) (o : InOrder t) where
   pub above-antisym : {a b : ℕ} → b < length t → Above t a b → Above t b a → a ≡ b
   above-antisym l x y = le-antisymm (above-le l x) (above-le (above-node l x) y)
 
-  -- a child comes behind its parent
+  -- a child comes behind its parent: no child of k comes before k + 1
   pub child-less : {p i : ℕ} → Child t p i → p < i
   child-less {p} {i} c = rw (c .parent) at (parent-smaller i (c .later) (c .node))
 
