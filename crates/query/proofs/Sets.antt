@@ -8,7 +8,7 @@ use mathlib.Core.Bool.{Bool, true, false, _&&_, _||_}
 use mathlib.Core.List.{List, [], _∷_}
 use lib.ListN.{length, getD}
 use lib.Dec.{T, eqb}
-use Rattle.query.proofs.Tests.{equal-test, and-test, or-test}
+use Rattle.query.proofs.Tests.{Decides, passes, equal-test, and-test, or-test, same-test}
 
 -- i is in s
 abbrev pub has : List Bool → ℕ → Bool
@@ -31,10 +31,10 @@ length-tabulate zero f = refl
 length-tabulate (suc n) f = ap suc (length-tabulate n (λ k. f (suc k)))
 
 -- a table of tests holds what they decide, if that is below n
-pub has-tabulate : (n : ℕ) (f : ℕ → Bool) (i : ℕ) {A : Type 0} → (T (f i) ↔ A) → (A → i < n) → T (has (tabulate n f) i) ↔ A
+pub has-tabulate : (n : ℕ) (f : ℕ → Bool) (i : ℕ) {A : Type 0} → Decides (f i) A → (A → i < n) → T (has (tabulate n f) i) ↔ A
 unfolding tabulate
 has-tabulate zero f i e l = (λ x. absurd x, λ a. let h = l a in absurd (omega arith))
-has-tabulate (suc n) f zero e l = e
+has-tabulate (suc n) f zero e l = e .exact
 has-tabulate (suc n) f (suc i) e l = has-tabulate n (λ k. f (suc k)) i e (λ a. let h = l a in omega arith)
 
 -- the set of i alone, among n nodes
@@ -54,7 +54,7 @@ union s s′ = tabulate (length s) (λ i. has s i || has s′ i)
 pub has-union : (s s′ : List Bool) → length s′ ≡ length s → (i : ℕ) → T (has (union s s′) i) ↔ (T (has s i) ⊎ T (has s′ i))
 unfolding union
 has-union s s′ e i =
-    has-tabulate (length s) (λ k. has s k || has s′ k) i (or-test (has s i) (has s′ i))
+    has-tabulate (length s) (λ k. has s k || has s′ k) i (or-test (passes (has s i)) (passes (has s′ i)))
     (⊎-elim (has-inside s i) (λ x. let h = has-inside s′ i x in omega arith))
 
 -- what is in s and passes a test
@@ -64,7 +64,7 @@ keep f s = tabulate (length s) (λ i. has s i && f i)
 
 pub has-keep : (f : ℕ → Bool) (s : List Bool) (i : ℕ) → T (has (keep f s) i) ↔ (T (has s i) × T (f i))
 unfolding keep
-has-keep f s i = has-tabulate (length s) (λ k. has s k && f k) i (and-test (has s i) (f i)) (λ x. has-inside s i (x .0))
+has-keep f s i = has-tabulate (length s) (λ k. has s k && f k) i (and-test (passes (has s i)) (passes (f i))) (λ x. has-inside s i (x .0))
 
 -- s has a member
 unfoldable pub any : List Bool → Bool
@@ -85,8 +85,20 @@ has-any (true ∷ s) i x = tt
 has-any (false ∷ s) zero x = absurd x
 has-any (false ∷ s) (suc i) x = has-any s i x
 
-pub any-right : (s : List Bool) → T (any s) ↔ ((i : ℕ) × T (has s i))
-any-right s = (any-has s, λ x. has-any s (x .0) (x .1))
+pub any-test : (s : List Bool) → Decides (any s) ((i : ℕ) × T (has s i))
+any-test s = record { exact = (any-has s, λ (i, x). has-any s i x) }
+
+-- some number below n passes a test
+unfoldable pub some : ℕ → (ℕ → Bool) → Bool
+unfolding tabulate any
+some n f = any (tabulate n f)
+
+pub some-test : (n : ℕ) {f : ℕ → Bool} {P : ℕ → Type 0} → ((i : ℕ) → Decides (f i) (P i)) → ((i : ℕ) → P i → i < n) → Decides (some n f) ((i : ℕ) × P i)
+unfolding some
+some-test n {f} {P} test inside = same-test (any-test (tabulate n f)) (λ (i, x). (i, at i .0 x), λ (i, x). (i, at i .1 x))
+  where
+    at : (i : ℕ) → T (has (tabulate n f) i) ↔ P i
+    at i = has-tabulate n f i (test i) (inside i)
 
 -- the number of members
 unfoldable pub size : List Bool → ℕ
