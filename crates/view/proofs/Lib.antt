@@ -1,3 +1,4 @@
 pub mod Nearest
 pub mod Positions
 pub mod Carried
+pub mod Order

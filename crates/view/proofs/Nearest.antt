@@ -1,12 +1,12 @@
 -- Nearest visible proper ancestors: each node but the root has one and no second, and no visible ancestor stands between. And the next
 -- visible node with the same nearest visible ancestor. Assumes nothing.
 use Prim.Native.Nat.{ℕ, zero, suc, _≤_, _<_}
-use native.Mathlib.Nat.{le-refl, pos-of-ne-zero}
+use native.Mathlib.Nat.{le-refl, lt-trans, pos-of-ne-zero}
 use native.Mathlib.Omega.{arith}
 use mathlib.Core.Path.{_≡_, refl, sym, subst}
 use lib.ListN.{length}
-use Rattle.tree.specs.Tree.{Tree, parentAt, Child, Above, here, up, InOrder}
-use Rattle.tree.proofs.Order.{above-trans, child-above, parent-smaller}
+use Rattle.tree.specs.Tree.{Tree, parentAt, Child, Above, InOrder}
+use Rattle.tree.proofs.Order.{above-trans, child-above, child-less, above-parent, parent-smaller}
 use Rattle.view.specs.View.{Nearest, parent, beyond}
 
 -- j is the next visible node behind i with the nearest visible ancestor that i has.
@@ -18,11 +18,6 @@ pub record NextSeen (t : Tree) (Seen : ℕ → Type 0) (i j : ℕ) : Type 0 wher
   pub node : j < length t
   pub visible : Seen j
   pub between : (m : ℕ) → i < m → m < j → Seen m → ¬ Nearest t Seen m above
-
--- a proper ancestor of a child is above its parent
-pub above-parent : {t : Tree} {a p i : ℕ} → Above t a i → ¬ (a ≡ i) → Child t p i → Above t a p
-above-parent here n c = absurd (n refl)
-above-parent {t} {a} (up z x) n c = subst (λ (q : ℕ). Above t a q) (c .parent) x
 
 module _ {t : Tree} {Seen : ℕ → Type 0} where
   -- there is no second one
@@ -45,21 +40,20 @@ module _ {t : Tree} {Seen : ℕ → Type 0} where
   nearest-node (parent c s) = c .node
   nearest-node (beyond c n x) = c .node
 
-  -- every visible proper ancestor is above the nearest one
-  pub nearest-below : {a i p : ℕ} → Seen a → Above t a i → ¬ (a ≡ i) → Nearest t Seen i p → Above t a p
-  nearest-below s x n (parent c r) = above-parent x n c
-  nearest-below s x n (beyond c h y) = nearest-below s (above-parent x n c) (λ e. h (subst Seen e s)) y
-
 module _ {t : Tree} {Seen : ℕ → Type 0} (o : InOrder t) where
   -- it has a smaller record number
   pub nearest-less : {i p : ℕ} → Nearest t Seen i p → p < i
-  nearest-less {i} (parent c s) =
-      let h : parentAt t i < i = parent-smaller t o i (c .later) (c .node) in
-      omega arith
-  nearest-less {i} {p} (beyond {q} c n x) =
-      let h : parentAt t i < i = parent-smaller t o i (c .later) (c .node) in
-      let k : p < q = nearest-less x in
-      omega arith
+  nearest-less (parent c s) = child-less t o c
+  nearest-less (beyond c n x) = lt-trans (nearest-less x) (child-less t o c)
+
+  -- every visible proper ancestor is above the nearest one
+  pub nearest-below : {a i p : ℕ} → Seen a → Above t a i → ¬ (a ≡ i) → Nearest t Seen i p → Above t a p
+  nearest-below {a} s x n (parent c r) =
+      let (q, d, y) = above-parent t o (c .node) x n in
+      subst (λ (k : ℕ). Above t a k) (cc) y
+  nearest-below {a} s x n (beyond c h z) =
+      let (q, d, y) = above-parent t o (c .node) x n in
+      nearest-below s (subst (λ (k : ℕ). Above t a k) (cc) y) (λ e. h (subst Seen e s)) z
 
   module _ (dec : (i : ℕ) → Dec (Seen i)) (root : Seen 0) where
     -- up to n, every node but the root has one: its parent or, where that is hidden, the parent's
