@@ -52,9 +52,11 @@ module _ {t : Tree} (o : InOrder t) {Seen : ℕ → Type 0} (dec : (i : ℕ) →
       above-carried g z x (no-gap t o l (omega arith) (omega arith) (nearest-above n))
 
   module _ {w : Tree} (other : View t Seen w) where
+    -- at each position both have the label of the node
     same-label : (k : ℕ) → k < length v → labelAt v k ≡ labelAt w k
     same-label k h = let (i, l, x) = view-node view h in view .label l x ∙ sym (other .label l x)
 
+    -- and the position of its nearest visible ancestor
     same-parent : (k : ℕ) → k < length v → parentAt v k ≡ parentAt w k
     same-parent zero h = view .root ∙ sym (other .root)
     same-parent (suc k) h =
