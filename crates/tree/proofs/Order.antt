@@ -5,10 +5,12 @@ use native.Mathlib.Nat.{le-refl, le-antisymm, zero-lt-suc}
 use native.Mathlib.Decide.{decLt, ℕ-discrete, map-dec, le-ind}
 use native.Mathlib.Omega.{arith}
 use mathlib.Core.Path.{_≡_, refl}
+use mathlib.Core.Logic.{Dec·and}
 use lib.ListN.{length}
 use Rattle.tree.specs.Tree.{Tree, parentAt, Child, Above, here, up, InOrder}
 
 module _ (t : Tree) where
+  -- what is above an ancestor is an ancestor
   pub above-trans : {a b c : ℕ} → Above t a b → Above t b c → Above t a c
   above-trans x here = x
   above-trans x (up z y) = up z (above-trans x y)
@@ -20,18 +22,9 @@ module _ (t : Tree) where
   -- whether i is a child of p
   pub dec-child : (p i : ℕ) → Dec (Child t p i)
   dec-child p i =
-      elim (decLt 0 i) [
-        | no h ↦ no (λ c. h (c .later))
-        | yes z ↦
-            elim (decLt i (length t)) [
-              | no h ↦ no (λ c. h (c .node))
-              | yes l ↦
-                  elim (ℕ-discrete (parentAt t i) p) [
-                    | no h ↦ no (λ c. h (c .parent))
-                    | yes e ↦ yes (record { later = z; node = l; parent = e })
-                  ]
-            ]
-      ]
+      map-dec (λ h. record { later = h .0; node = h .1 .0; parent = h .1 .1 })
+      (λ c. (c .later, (c .node, c .parent)))
+      (Dec·and (decLt 0 i) (Dec·and (decLt i (length t)) (ℕ-discrete (parentAt t i) p)))
 
 module _ (t : Tree) (o : InOrder t) where
   -- below n, an ancestor is no greater: by induction on n, since the parent of i + 1 is above i
@@ -65,7 +58,7 @@ module _ (t : Tree) (o : InOrder t) where
   pub above-antisym : {a b : ℕ} → b < length t → Above t a b → Above t b a → a ≡ b
   above-antisym l x y = le-antisymm (above-le l x) (above-le (above-node l x) y)
 
-  -- a child comes behind its parent
+  -- a child comes behind its parent: no child of k comes before k + 1
   pub child-less : {p i : ℕ} → Child t p i → p < i
   child-less {p} {i} c = rw (c .parent) at (parent-smaller i (c .later) (c .node))
 
@@ -96,13 +89,13 @@ module _ (t : Tree) (o : InOrder t) where
   root-above (suc i) l = up (zero-lt-suc i) (above-linear (omega arith) (root-above i (omega arith)) (o i l) zero-le)
 
   -- the parent of a node is above the record before the node
-  pub child-before : {p i : ℕ} → Child t p (suc i) → Above t p i
+  pub child-before : {p i j : ℕ} → suc i ≡ j → Child t p j → Above t p i
   unfolding InOrder
-  child-before {p} {i} c = rw (c .parent) at (o i (c .node))
+  child-before {p} {i} e c = rw (e, c .parent) at (o i (omega arith))
 
   -- an ancestor that comes before the record before a node is above that record
   above-before : {k i : ℕ} → suc i < length t → k ≤ i → Above t k (suc i) → Above t k i
-  above-before l h x = let (p, c, y) = above-parent l x (omega arith) in above-trans t y (child-before c)
+  above-before l h x = let (p, c, y) = above-parent l x (omega arith) in above-trans t y (child-before refl c)
 
   -- "a run has no gap"
   pub no-gap : {k m j : ℕ} → j < length t → k ≤ m → m ≤ j → Above t k j → Above t k m
