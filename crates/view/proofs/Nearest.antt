@@ -1,12 +1,15 @@
 -- Nearest visible proper ancestors: each node but the root has one and no second, and no visible ancestor stands between. And the next
 -- visible node with the same nearest visible ancestor. Assumes nothing.
 use Prim.Native.Nat.{ℕ, zero, suc, _≤_, _<_}
-use native.Mathlib.Nat.{le-refl, pos-of-ne-zero}
+use native.Mathlib.Nat.{le-refl, lt-trans, pos-of-ne-zero}
 use native.Mathlib.Omega.{arith}
-use mathlib.Core.Path.{_≡_, refl, sym, subst}
+use mathlib.Core.Path.{_≡_, refl}
+use mathlib.Core.Logic.{_↔_}
 use lib.ListN.{length}
-use Rattle.tree.specs.Tree.{Tree, parentAt, Child, Above, here, up, InOrder}
-use Rattle.tree.proofs.Order.{above-trans, child-above, parent-smaller}
+use Rattle.tree.specs.Tree.{Tree, parentAt, Child, Above, InOrder}
+use Rattle.tree.proofs.Order.{above-trans, child-above, child-less, parent-smaller}
+use Rattle.tree.proofs.Siblings.{child-unique}
+use Rattle.tree.proofs.Runs.{above-child}
 use Rattle.view.specs.View.{Nearest, parent, beyond}
 
 -- j is the next visible node behind i with the nearest visible ancestor that i has.
@@ -19,47 +22,50 @@ pub record NextSeen (t : Tree) (Seen : ℕ → Type 0) (i j : ℕ) : Type 0 wher
   pub visible : Seen j
   pub between : (m : ℕ) → i < m → m < j → Seen m → ¬ Nearest t Seen m above
 
--- a proper ancestor of a child is above its parent
-pub above-parent : {t : Tree} {a p i : ℕ} → Above t a i → ¬ (a ≡ i) → Child t p i → Above t a p
-above-parent here n c = absurd (n refl)
-above-parent {t} {a} (up z x) n c = subst (λ (q : ℕ). Above t a q) (c .parent) x
-
 module _ {t : Tree} {Seen : ℕ → Type 0} where
+  -- a visible parent is the nearest
+  nearest-parent : {q i p : ℕ} → Child t q i → Seen q → Nearest t Seen i p → q ≡ p
+  nearest-parent c s (parent d r) = child-unique t c d
+  nearest-parent c s (beyond d h x) = absurd (h (rw (child-unique t c d) at s))
+
+  -- past a hidden parent, the nearest is the parent's
+  pub nearest-beyond : {q i p : ℕ} → Child t q i → ¬ Seen q → Nearest t Seen i p ↔ Nearest t Seen q p
+  nearest-beyond {q} {i} {p} c h = (go, beyond c h)
+    where
+      go : Nearest t Seen i p → Nearest t Seen q p
+      go (parent d s) = absurd (h (rw (child-unique t d c) at s))
+      go (beyond d g x) = rw (child-unique t d c) at x
+
   -- there is no second one
   pub nearest-unique : {i p q : ℕ} → Nearest t Seen i p → Nearest t Seen i q → p ≡ q
-  nearest-unique (parent c s) (parent d r) = cc
-  nearest-unique (parent c s) (beyond d n y) = absurd (n (subst Seen (cc) s))
-  nearest-unique (beyond c n x) (parent d r) = absurd (n (subst Seen (cc) r))
-  nearest-unique {q} (beyond c n x) (beyond d m y) = nearest-unique x (subst (λ (k : ℕ). Nearest t Seen k q) (cc) y)
+  nearest-unique (parent c s) y = nearest-parent c s y
+  nearest-unique (beyond c h x) y = nearest-unique x (nearest-beyond c h .0 y)
 
+  -- it is visible
   pub nearest-seen : {i p : ℕ} → Nearest t Seen i p → Seen p
   nearest-seen (parent c s) = s
-  nearest-seen (beyond c n x) = nearest-seen x
+  nearest-seen (beyond c h x) = nearest-seen x
 
+  -- it is an ancestor
   pub nearest-above : {i p : ℕ} → Nearest t Seen i p → Above t p i
   nearest-above (parent c s) = child-above t c
-  nearest-above (beyond c n x) = above-trans t (nearest-above x) (child-above t c)
+  nearest-above (beyond c h x) = above-trans t (nearest-above x) (child-above t c)
 
   -- only a node has one
   pub nearest-node : {i p : ℕ} → Nearest t Seen i p → i < length t
   nearest-node (parent c s) = c .node
-  nearest-node (beyond c n x) = c .node
-
-  -- every visible proper ancestor is above the nearest one
-  pub nearest-below : {a i p : ℕ} → Seen a → Above t a i → ¬ (a ≡ i) → Nearest t Seen i p → Above t a p
-  nearest-below s x n (parent c r) = above-parent x n c
-  nearest-below s x n (beyond c h y) = nearest-below s (above-parent x n c) (λ e. h (subst Seen e s)) y
+  nearest-node (beyond c h x) = c .node
 
 module _ {t : Tree} {Seen : ℕ → Type 0} (o : InOrder t) where
   -- it has a smaller record number
   pub nearest-less : {i p : ℕ} → Nearest t Seen i p → p < i
-  nearest-less {i} (parent c s) =
-      let h : parentAt t i < i = parent-smaller t o i (c .later) (c .node) in
-      omega arith
-  nearest-less {i} {p} (beyond {q} c n x) =
-      let h : parentAt t i < i = parent-smaller t o i (c .later) (c .node) in
-      let k : p < q = nearest-less x in
-      omega arith
+  nearest-less (parent c s) = child-less t o c
+  nearest-less (beyond c h x) = lt-trans (nearest-less x) (child-less t o c)
+
+  -- every visible proper ancestor is above the nearest one
+  pub nearest-below : {a i p : ℕ} → Seen a → Above t a i → ¬ (a ≡ i) → Nearest t Seen i p → Above t a p
+  nearest-below s x n (parent c r) = above-child t o c x n
+  nearest-below s x n (beyond c h y) = nearest-below s (above-child t o c x n) (λ e. h (rw e at s)) y
 
   module _ (dec : (i : ℕ) → Dec (Seen i)) (root : Seen 0) where
     -- up to n, every node but the root has one: its parent or, where that is hidden, the parent's
@@ -75,7 +81,7 @@ module _ {t : Tree} {Seen : ℕ → Type 0} (o : InOrder t) where
         go : Dec (Seen (parentAt t i)) → (0 < parentAt t i → (p : ℕ) × Nearest t Seen (parentAt t i) p) → (p : ℕ) × Nearest t Seen i p
         go (yes s) further = (parentAt t i, parent child s)
         go (no h) further =
-            let r = further (pos-of-ne-zero (λ e. h (subst Seen (sym e) root))) in
+            let r = further (pos-of-ne-zero (λ e. h (rw e root))) in
             (r .0, beyond child h (r .1))
 
     -- every node but the root has one
