@@ -33,6 +33,16 @@ has-members k (true ∷ s) m (suc i) e x = List·Memᴰ·tail (has-members (suc 
 has-members k (false ∷ s) m zero e x = absurd x
 has-members k (false ∷ s) m (suc i) e x = has-members (suc k) s m i (omega arith) x
 
+-- the members of a set are what it has
+pub members-right : (s : List Bool) (k : ℕ) → List·Memᴰ k (members 0 s) ↔ T (has s k)
+members-right s k = (there, λ x. has-members 0 s k k (omega arith) x)
+  where
+    there : List·Memᴰ k (members 0 s) → T (has s k)
+    there x =
+        let (i, e, y) = members-has 0 s k x in
+        let h : i ≡ k = omega arith in
+        subst (λ (j : ℕ). T (has s j)) h y
+
 -- the nodes that a path reaches from record 0
 unfoldable pub answer : Tree → Path → List ℕ
 unfolding members image single
@@ -41,10 +51,4 @@ answer t p = members 0 (image t p (single (length t) 0))
 module _ (t : Tree) (o : InOrder t) where
   pub answer-right : (p : Path) → 0 < length t → (k : ℕ) → List·Memᴰ k (answer t p) ↔ reach t p 0 k
   unfolding answer
-  answer-right p l k = Iff·trans (first, λ x. has-members 0 found k k (omega arith) x) (image-node t o p 0 l k .exact)
-    where
-      found : List Bool
-      found = image t p (single (length t) 0)
-
-      first : List·Memᴰ k (members 0 found) → T (has found k)
-      first x = let (i, e, y) = members-has 0 found k x in let h : i ≡ k = omega arith in subst (λ (j : ℕ). T (has found j)) h y
+  answer-right p l k = Iff·trans (members-right (image t p (single (length t) 0)) k) (image-node t o p 0 l k .exact)

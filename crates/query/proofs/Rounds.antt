@@ -74,8 +74,8 @@ module _ (n : ℕ) (R : ℕ → ℕ → Type 0) (f : List Bool → List Bool) (s
       choice (Closure R s) (leb (size (union s (f s))) (size s)) s (grow k f (union s (f s)))
       (λ x. at-rest s e (leb→le (size (union s (f s))) (size s) x))
       (λ x.
-        let h : size s < size (union s (f s)) = nleb→lt (size (union s (f s))) (size s) x in
-        one-round s e (grow-closure k (union s (f s)) (length-round s e ∙ e) (omega arith)))
+      let h : size s < size (union s (f s)) = nleb→lt (size (union s (f s))) (size s) x in
+      one-round s e (grow-closure k (union s (f s)) (length-round s e ∙ e) (omega arith)))
 
   -- as many rounds as there are nodes step along the star
   pub star-steps : Steps n (Star R) (grow n f)

@@ -75,10 +75,10 @@ module _ (n : ℕ) where
     then-steps = record {
       nodes = λ s e. right .nodes (f s) (left .nodes s e);
       right = λ s e j.
-        let last = right .right (f s) (left .nodes s e) j in (
-          λ x. let (k, y, q) = last .0 x in let (i, z, r) = left .right s e k .0 y in (i, z, (k, r, q)),
-          λ (i, x, a). last .1 (a .0, left .right s e (a .0) .1 (i, x, a .1), a .2),
-        );
+          let last = right .right (f s) (left .nodes s e) j in (
+            λ x. let (k, y, q) = last .0 x in let (i, z, r) = left .right s e k .0 y in (i, z, (k, r, q)),
+            λ (i, x, a). last .1 (a .0, left .right s e (a .0) .1 (i, x, a .1), a .2),
+          );
     }
 
     pub either-steps : Steps n (λ i j. R i j ⊎ Q i j) (λ s. union (f s) (g s))
