@@ -4,11 +4,13 @@ use mathlib.Core.Path.{_≡_, subst}
 use mathlib.Core.Logic.{_↔_, _⊎_, inl, inr, ⊎-map, Iff·rfl, Iff·trans, Iff·not, Iff·and}
 use mathlib.Core.Bool.{Bool, true, false, cond, not, _&&_, _||_}
 use lib.Dec.{T, T-not, not-T, ltb, eqb, ltb→lt, lt→ltb, eqb→eq, eqb-refl}
+use mir.Facts.{and-yes, yes-and, or-yes}
 
 -- the test passes exactly where the statement holds
 pub record Decides (b : Bool) (A : Type 0) : Type 0 where
   pub exact : T b ↔ A
 
+-- a test decides whether it passes
 pub passes : (b : Bool) → Decides b (T b)
 passes b = record { exact = Iff·rfl }
 
@@ -18,31 +20,29 @@ less-test m n = record { exact = (ltb→lt m n, lt→ltb m n) }
 pub equal-test : (m n : ℕ) → Decides (eqb m n) (m ≡ n)
 equal-test m n = record { exact = (eqb→eq m n, λ e. subst (λ (k : ℕ). T (eqb m k)) e (eqb-refl m)) }
 
-both : (a b : Bool) → T (a && b) ↔ (T a × T b)
-both true b = (λ x. (tt, x), λ x. x .1)
-both false b = (λ x. absurd x, λ x. x .0)
+-- a disjunction passes where a part of it does
+yes-or : (a b : Bool) → T a ⊎ T b → T (a || b)
+yes-or true b x = tt
+yes-or false b x = elim x [ inl y ↦ absurd y | inr y ↦ y ]
 
-one-of : (a b : Bool) → T (a || b) ↔ (T a ⊎ T b)
-one-of true b = (λ x. inl tt, λ x. tt)
-one-of false b = (inr, λ x. elim x [ inl y ↦ absurd y | inr y ↦ y ])
-
+-- conjunction and disjunction of tests
 module _ {a b : Bool} {A B : Type 0} (left : Decides a A) (right : Decides b B) where
   pub and-test : Decides (a && b) (A × B)
-  and-test = record { exact = Iff·trans (both a b) (Iff·and (left .exact) (right .exact)) }
+  and-test = record { exact = Iff·trans (and-yes a b, λ (x, y). yes-and a b x y) (Iff·and (left .exact) (right .exact)) }
 
   pub or-test : Decides (a || b) (A ⊎ B)
-  unfolding ⊎-map
-  or-test = record { exact = Iff·trans (one-of a b) (⊎-map (left .exact .0) (right .exact .0), ⊎-map (left .exact .1) (right .exact .1)) }
+  or-test = record { exact = Iff·trans (or-yes a b, yes-or a b) (⊎-map (left .exact .0) (right .exact .0), ⊎-map (left .exact .1) (right .exact .1)) }
 
-module _ {a : Bool} {A : Type 0} (test : Decides a A) where
-  pub not-test : Decides (not a) (¬ A)
-  not-test = record { exact = Iff·trans (T-not a, not-T a) (Iff·not (test .exact)) }
+module _ {b : Bool} {A : Type 0} (test : Decides b A) where
+  -- negation of a test
+  pub not-test : Decides (not b) (¬ A)
+  not-test = record { exact = Iff·trans (T-not b, not-T b) (Iff·not (test .exact)) }
 
   -- a test of one statement is a test of any other that says the same
-  pub same-test : {B : Type 0} → A ↔ B → Decides a B
+  pub same-test : {B : Type 0} → A ↔ B → Decides b B
   same-test e = record { exact = Iff·trans (test .exact) e }
 
--- what a test decides is decided
+-- what has a test is decided
 pub decided : {b : Bool} {A : Type 0} → Decides b A → Dec A
 decided {b = true} test = yes (test .exact .0 tt)
 decided {b = false} test = no (test .exact .1)
