@@ -42,16 +42,6 @@ members-right s k = (
   λ x. has-listed 0 s k k (omega arith) x,
 )
 
--- the members of a set are what it has
-pub members-right : (s : List Bool) (k : ℕ) → List·Memᴰ k (members 0 s) ↔ T (has s k)
-members-right s k = (there, λ x. has-members 0 s k k (omega arith) x)
-  where
-    there : List·Memᴰ k (members 0 s) → T (has s k)
-    there x =
-        let (i, e, y) = members-has 0 s k x in
-        let h : i ≡ k = omega arith in
-        subst (λ (j : ℕ). T (has s j)) h y
-
 -- the nodes that a path reaches from record 0
 unfoldable pub answer : Tree → Path → List ℕ
 unfolding members image single

@@ -81,13 +81,8 @@ module _ (n : ℕ) (R : ℕ → ℕ → Type 0) (f : List Bool → List Bool) (s
       choice (Closure R s) (leb (size (round f s)) (size s)) s (grow k f (round f s))
       (λ x. at-rest s e (leb→le (size (round f s)) (size s) x))
       (λ x.
-<<<<<<< HEAD
-      let h : size s < size (union s (f s)) = nleb→lt (size (union s (f s))) (size s) x in
-      one-round s e (grow-closure k (union s (f s)) (length-round s e ∙ e) (omega arith)))
-=======
       let h : size s < size (round f s) = nleb→lt (size (round f s)) (size s) x in
       one-round s e (grow-closure k (round f s) (length-round s e ∙ e) (omega arith)))
->>>>>>> wt-c
 
   -- as many rounds as there are nodes step along the star
   pub star-steps : Steps n (Star R) (grow n f)
