@@ -7,9 +7,11 @@ use mathlib.Core.Bool.{Bool, true, false, _&&_}
 use mathlib.Core.List.{List, [], _∷_, _++_, map, List·Memᴰ, List·Memᴰ·not-nil, List·Memᴰ·cases-cons}
 use lib.Dec.{T, eqb, eqb→eq}
 use lib.ListN.{length, getD}
+use mir.Facts.{and-yes}
 use Rattle.reply.specs.Bytes.{Bytes, twoBytes}
 use Rattle.tree.specs.Tree.{Node, Tree, labelAt, parentAt, InOrder}
-use Rattle.tree.proofs.Deciding.{both-left, both-right, all, everyBelow, isAbove, isOrdered, is-ordered}
+use Rattle.tree.proofs.Tests.{all, everyBelow}
+use Rattle.tree.proofs.Deciding.{isAbove}
 use Rattle.roll.specs.Roll.{nodes, nodeBytes, Roll}
 use Rattle.roll.proofs.Deciding.{isRoll, is-roll, hasParent, roll-in-order, roll-root}
 use Rattle.query.specs.Syntax.{Path, Filter}
@@ -76,7 +78,8 @@ same-list same right [] [] h = refl
 same-list same right [] (y ∷ ys) h = absurd h
 same-list same right (x ∷ xs) [] h = absurd h
 same-list same right (x ∷ xs) (y ∷ ys) h =
-    ap₂ _∷_ (right x y (both-left (same x y) (sameList same xs ys) h)) (same-list same right xs ys (both-right (same x y) (sameList same xs ys) h))
+    let (e, rest) = and-yes (same x y) (sameList same xs ys) h in
+    ap₂ _∷_ (right x y e) (same-list same right xs ys rest)
 
 sameNode : Node → Node → Bool
 sameNode n m = eqb (n .label) (m .label) && eqb (n .parent) (m .parent)
@@ -84,9 +87,8 @@ sameNode n m = eqb (n .label) (m .label) && eqb (n .parent) (m .parent)
 same-node : (n m : Node) → T (sameNode n m) → n ≡ m
 unfolding sameNode
 same-node n m h =
-    let labels : n .label ≡ m .label = eqb→eq (n .label) (m .label) (both-left (eqb (n .label) (m .label)) (eqb (n .parent) (m .parent)) h) in
-    let parents : n .parent ≡ m .parent = eqb→eq (n .parent) (m .parent) (both-right (eqb (n .label) (m .label)) (eqb (n .parent) (m .parent)) h) in
-    λ i. record { label = labels i; parent = parents i }
+    let (l, p) = and-yes (eqb (n .label) (m .label)) (eqb (n .parent) (m .parent)) h in
+    λ i. record { label = eqb→eq (n .label) (m .label) l i; parent = eqb→eq (n .parent) (m .parent) p i }
 
 -- a case, computed
 computes : Case → Bool
@@ -123,10 +125,8 @@ one-of-all : (cs : List Case) → T (all (map computes cs)) → (c : Case) → L
 unfolding all
 one-of-all [] h c m = absurd (List·Memᴰ·not-nil m)
 one-of-all (d ∷ cs) h c m =
-    ⊎-elim
-    (λ e. subst (λ (x : Case). T (computes x)) (sym e) (both-left (computes d) (all (map computes cs)) h))
-    (λ n. one-of-all cs (both-right (computes d) (all (map computes cs)) h) c n)
-    (List·Memᴰ·cases-cons m)
+    let (this, rest) = and-yes (computes d) (all (map computes cs)) h in
+    ⊎-elim (λ e. subst (λ (x : Case). T (computes x)) (sym e) this) (λ n. one-of-all cs rest c n) (List·Memᴰ·cases-cons m)
 
 -- Every case marked P holds of the definitions.
 pub proved : (c : Case) → List·Memᴰ c cases → Holds c

@@ -12,7 +12,7 @@ use Rattle.query.specs.Syntax.{Path, self, child, parent, next, previous
 use Rattle.query.specs.Syntax.{Filter, labelled, leads, always, never, not, and, or}
 use Rattle.query.specs.Meaning.{reach, holds}
 use Rattle.query.proofs.Inside.{reach-inside}
-use Rattle.query.proofs.Tests.{Decides, passes, less-test, equal-test, and-test, or-test, not-test, same-test, decided}
+use Rattle.tree.proofs.Tests.{Decides, passes, less-test, equal-test, and-test, or-test, not-test, same-test, decided}
 use Rattle.query.proofs.Sets.{has, single, union, keep, any, some, some-test}
 use Rattle.query.proofs.Steps.{Steps, from-node, from-node-any, follow, self-steps, follow-steps, keep-steps, then-steps, either-steps}
 use Rattle.query.proofs.Rounds.{grow, star-steps}

@@ -1,5 +1,4 @@
 pub mod Inside
-pub mod Tests
 pub mod Sets
 pub mod Steps
 pub mod Rounds

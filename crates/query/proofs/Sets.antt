@@ -8,7 +8,7 @@ use mathlib.Core.Bool.{Bool, true, false, _&&_, _||_}
 use mathlib.Core.List.{List, [], _∷_}
 use lib.ListN.{length, getD}
 use lib.Dec.{T, eqb}
-use Rattle.query.proofs.Tests.{Decides, passes, equal-test, and-test, or-test, same-test}
+use Rattle.tree.proofs.Tests.{Decides, passes, equal-test, and-test, or-test, same-test}
 
 -- i is in s
 abbrev pub has : List Bool → ℕ → Bool

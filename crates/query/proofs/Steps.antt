@@ -6,7 +6,7 @@ use mathlib.Core.Bool.{Bool, _&&_}
 use mathlib.Core.List.{List}
 use lib.ListN.{length}
 use lib.Dec.{T, eqb}
-use Rattle.query.proofs.Tests.{Decides, passes, and-test, same-test}
+use Rattle.tree.proofs.Tests.{Decides, passes, and-test, same-test}
 use Rattle.query.proofs.Sets.{has, has-inside, tabulate, length-tabulate, has-tabulate, union, has-union, single, has-single, keep, has-keep}
 use Rattle.query.proofs.Sets.{any, any-test, some, some-test}
 

@@ -4,57 +4,39 @@ use native.Mathlib.Omega.{arith}
 use native.Mathlib.Nat.{eq-or-lt-of-le, le-refl}
 use native.Mathlib.Decide.{decLt}
 use mathlib.Core.Path.{_≡_, refl, sym, ap, _∙_, subst}
-use mathlib.Core.Logic.{_↔_, ⊎-elim, _⊎_, inl, inr, Iff·trans}
+use mathlib.Core.Logic.{_↔_, _⊎_, inl, inr, ⊎-elim}
 use mathlib.Core.Bool.{Bool, true, false, _&&_, _||_}
 use mathlib.Core.List.{List, [], _∷_, _++_, List·Memᴰ·head, List·Memᴰ·tail, List·Memᴰ·not-nil, List·Memᴰ·cases-cons}
-use lib.Dec.{T, eqb, eqb→eq, eqb-refl}
+use lib.Dec.{T, eqb}
 use lib.ListN.{length, getD, length-append, List·getD-append}
 use lib.Seq.{getD-at}
 use Rattle.tree.specs.Tree.{Tree, labelAt, parentAt, Child, InOrder}
-use Rattle.tree.proofs.Deciding.{both, both-left, both-right}
+use Rattle.tree.proofs.Tests.{Decides, passes, equal-test, and-test, or-test, same-test, decided}
 use Rattle.tree.proofs.Order.{parent-smaller}
 use Rattle.query.specs.Syntax.{Filter}
 use Rattle.query.specs.Meaning.{holds}
-use Rattle.query.proofs.Tests.{decided}
 use Rattle.query.proofs.Deciding.{test, test-right}
 use Rattle.view.specs.Annotation.{Rule}
 use Rattle.view.specs.Visible.{Ruled, Visible, root, shown, inherits}
-
-either : (a b : Bool) → T (a || b) ↔ (T a ⊎ T b)
-either true b = (λ x. inl tt, λ x. tt)
-either false b = (λ x. inr x, λ x. ⊎-elim (λ y. absurd y) (λ y. y) x)
 
 -- the pair has a record whose filter passes
 unfoldable pub someRule : (Filter → Bool) → List Rule → ℕ → ℕ → Bool
 someRule pass [] p c = false
 someRule pass (r ∷ more) p c = (eqb (r .parent) p && (eqb (r .child) c && pass (r .filter))) || someRule pass more p c
 
-some-rule : (pass : Filter → Bool) (rules : List Rule) (p c : ℕ) → T (someRule pass rules p c) ↔ ((f : Filter) × Ruled rules p c f × T (pass f))
+some-rule : (pass : Filter → Bool) (rules : List Rule) (p c : ℕ) → Decides (someRule pass rules p c) ((f : Filter) × Ruled rules p c f × T (pass f))
 unfolding someRule
-some-rule pass [] p c = (λ x. absurd x, λ x. absurd (List·Memᴰ·not-nil (x .1)))
+some-rule pass [] p c = record { exact = (λ x. absurd x, λ x. absurd (List·Memᴰ·not-nil (x .1))) }
 some-rule pass (r ∷ more) p c =
-    let rest = some-rule pass more p c in (
-      λ x. ⊎-elim first (λ h. behind (rest .0 h)) (either one (someRule pass more p c) .0 x),
-      λ x. either one (someRule pass more p c) .1 (⊎-elim (λ e. inl (this x e)) (λ m. inr (rest .1 (x .0, m, x .2))) (List·Memᴰ·cases-cons (x .1))),
-    )
+    same-test
+    (or-test (and-test (equal-test (r .parent) p) (and-test (equal-test (r .child) c) (passes (pass (r .filter))))) (some-rule pass more p c))
+    (λ x. ⊎-elim this (λ y. (y .0, List·Memᴰ·tail (y .1), y .2)) x, λ x. ⊎-elim (λ e. inl (that x e)) (λ m. inr (x .0, m, x .2)) (List·Memᴰ·cases-cons (x .1)))
   where
-    one : Bool
-    one = eqb (r .parent) p && (eqb (r .child) c && pass (r .filter))
+    this : (r .parent ≡ p) × ((r .child ≡ c) × T (pass (r .filter))) → (f : Filter) × Ruled (r ∷ more) p c f × T (pass f)
+    this (e, (e′, h)) = (r .filter, List·Memᴰ·head (λ i. record { parent = sym e i; child = sym e′ i; filter = r .filter }), h)
 
-    first : T one → (f : Filter) × Ruled (r ∷ more) p c f × T (pass f)
-    first h =
-        let k = both-right (eqb (r .parent) p) (eqb (r .child) c && pass (r .filter)) h in
-        let e : r .parent ≡ p = eqb→eq (r .parent) p (both-left (eqb (r .parent) p) (eqb (r .child) c && pass (r .filter)) h) in
-        let e′ : r .child ≡ c = eqb→eq (r .child) c (both-left (eqb (r .child) c) (pass (r .filter)) k) in
-        (r .filter, List·Memᴰ·head (λ i. record { parent = sym e i; child = sym e′ i; filter = r .filter }), both-right (eqb (r .child) c) (pass (r .filter)) k)
-
-    behind : (f : Filter) × Ruled more p c f × T (pass f) → (f : Filter) × Ruled (r ∷ more) p c f × T (pass f)
-    behind x = (x .0, List·Memᴰ·tail (x .1), x .2)
-
-    this : (x : (f : Filter) × Ruled (r ∷ more) p c f × T (pass f)) → _≡_ {A = Rule} (record { parent = p; child = c; filter = x .0 }) r → T one
-    this x e =
-        both (eqb (r .parent) p) (eqb (r .child) c && pass (r .filter)) (subst (λ (y : ℕ). T (eqb y p)) (λ i. e i .parent) (eqb-refl p))
-        (both (eqb (r .child) c) (pass (r .filter)) (subst (λ (y : ℕ). T (eqb y c)) (λ i. e i .child) (eqb-refl c)) (subst (λ (y : Filter). T (pass y)) (λ i. e i .filter) (x .2)))
+    that : (x : (f : Filter) × Ruled (r ∷ more) p c f × T (pass f)) → _≡_ {A = Rule} (record { parent = p; child = c; filter = x .0 }) r → (r .parent ≡ p) × ((r .child ≡ c) × T (pass (r .filter)))
+    that x e = (λ i. sym e i .parent, (λ i. sym e i .child, subst (λ (y : Filter). T (pass y)) (λ i. e i .filter) (x .2)))
 
 module _ (t : Tree) (rules : List Rule) where
   -- whether record i is visible, given who is visible before it
@@ -125,18 +107,18 @@ module _ (t : Tree) (rules : List Rule) where
         passed : Bool
         passed = someRule (λ f. test t f (suc i)) rules (labelAt t p) (labelAt t (suc i))
 
-        passes : T passed ↔ ((f : Filter) × Ruled rules (labelAt t p) (labelAt t (suc i)) f × T (test t f (suc i)))
-        passes = some-rule (λ f. test t f (suc i)) rules (labelAt t p) (labelAt t (suc i))
+        passes-rule : T passed ↔ ((f : Filter) × Ruled rules (labelAt t p) (labelAt t (suc i)) f × T (test t f (suc i)))
+        passes-rule = some-rule (λ f. test t f (suc i)) rules (labelAt t p) (labelAt t (suc i)) .exact
 
         covers : T covered ↔ ((f : Filter) × Ruled rules (labelAt t p) (labelAt t (suc i)) f × Unit {0})
-        covers = some-rule (λ f. true) rules (labelAt t p) (labelAt t (suc i))
+        covers = some-rule (λ f. true) rules (labelAt t p) (labelAt t (suc i)) .exact
 
         go : (b : Bool) → covered ≡ b → T (elim b [ true ↦ passed | false ↦ getD (seenUpTo (suc i)) p false ]) ↔ Visible t rules (suc i)
         go true e = (
-          λ x. let (f, r, h) = passes .0 x in shown child r (test-right t o f (suc i) l .0 h),
+          λ x. let (f, r, h) = passes-rule .0 x in shown child r (test-right t o f (suc i) l .0 h),
           λ v.
               ⊎-elim
-              (λ y. passes .1 (y .0, y .1, test-right t o (y .0) (suc i) l .1 (y .2)))
+              (λ y. passes-rule .1 (y .0, y .1, test-right t o (y .0) (suc i) l .1 (y .2)))
               (λ y. let (f, r, u) = covers .0 (subst T (sym e) tt) in absurd (y .0 f r))
               (visible-cases (omega arith) v),
         )

@@ -1,8 +1,12 @@
 -- Tests that decide statements, and tests made of such tests. Assumes nothing.
-use Prim.Native.Nat.{ℕ, _<_}
-use mathlib.Core.Path.{_≡_, subst}
-use mathlib.Core.Logic.{_↔_, _⊎_, inl, inr, ⊎-map, Iff·rfl, Iff·trans, Iff·not, Iff·and}
+use Prim.Native.Nat.{ℕ, zero, suc, _≤_, _<_}
+use native.Mathlib.Omega.{arith}
+use native.Mathlib.Nat.{eq-or-lt-of-le}
+use mathlib.Core.Path.{_≡_, sym, subst}
+use mathlib.Core.Logic.{_↔_, _⊎_, inl, inr, ⊎-elim, ⊎-map, Iff·rfl, Iff·trans, Iff·not, Iff·and}
 use mathlib.Core.Bool.{Bool, true, false, cond, not, _&&_, _||_}
+use mathlib.Core.List.{List, [], _∷_}
+use lib.ListN.{getD}
 use lib.Dec.{T, T-not, not-T, ltb, eqb, ltb→lt, lt→ltb, eqb→eq, eqb-refl}
 use mir.Facts.{and-yes, yes-and, or-yes}
 
@@ -51,3 +55,27 @@ decided {b = false} test = no (test .exact .1)
 pub choice : {A : Type 0} (P : A → Type 0) (b : Bool) (x y : A) → (T b → P x) → (T (not b) → P y) → P (cond b x y)
 choice P true x y f g = f tt
 choice P false x y f g = g tt
+
+-- all of some tests pass
+unfoldable pub all : List Bool → Bool
+all [] = true
+all (b ∷ more) = b && all more
+
+pub all-at : (tests : List Bool) → T (all tests) → (k : ℕ) → T (getD tests k true)
+unfolding all
+all-at [] h k = tt
+all-at (b ∷ more) h zero = and-yes b (all more) h .0
+all-at (b ∷ more) h (suc k) = all-at more (and-yes b (all more) h .1) k
+
+-- the test passes at every number below n
+unfoldable pub everyBelow : ℕ → (ℕ → Bool) → Bool
+everyBelow zero test = true
+everyBelow (suc n) test = test n && everyBelow n test
+
+pub every-below : (n : ℕ) (test : ℕ → Bool) → T (everyBelow n test) → (i : ℕ) → i < n → T (test i)
+unfolding everyBelow
+every-below zero test h i l = absurd (omega arith)
+every-below (suc n) test h i l =
+    let both = and-yes (test n) (everyBelow n test) h in
+    let last : i ≤ n = omega arith in
+    ⊎-elim (λ e. subst (λ (k : ℕ). T (test k)) (sym e) (both .0)) (λ k. every-below n test (both .1) i k) (eq-or-lt-of-le last)
