@@ -1,3 +1,4 @@
+pub mod Closure
 pub mod Inside
 pub mod Sets
 pub mod Steps

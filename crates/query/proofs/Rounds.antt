@@ -8,7 +8,7 @@ use mathlib.Core.List.{List}
 use lib.ListN.{length}
 use lib.Dec.{T, leb, leb→le, nleb→lt}
 use Rattle.query.specs.Meaning.{Star, stop, step}
-use Rattle.query.proofs.Inside.{star-keeps}
+use Rattle.query.proofs.Closure.{star-keeps}
 use Rattle.tree.proofs.Tests.{choice}
 use Rattle.query.proofs.Sets.{has, length-tabulate, union, has-union, size, size-bound, part-whole}
 use Rattle.query.proofs.Steps.{Steps}
