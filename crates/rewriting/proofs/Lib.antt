@@ -1,6 +1,7 @@
 pub mod Formulas
-pub mod Stub
 pub mod Turn
 pub mod Nearest
 pub mod Updown
+pub mod Stretch
 pub mod Sideways
+pub mod Backwards

@@ -6,9 +6,10 @@ use mathlib.Core.Path.{_≡_, refl, sym, _∙_, subst}
 use mathlib.Core.Logic.{_↔_, _≢_}
 use lib.ListN.{length}
 use Rattle.tree.specs.Tree.{Tree, parentAt, Child, Above, InOrder}
-use Rattle.tree.proofs.Order.{above-trans, child-above, parent-smaller}
+use Rattle.tree.proofs.Order.{above-trans, child-above, child-less, parent-smaller}
+use Rattle.tree.proofs.Siblings.{child-unique}
+use Rattle.tree.proofs.Runs.{above-child}
 use Rattle.view.specs.View.{Nearest, parent, beyond}
-use Rattle.rewriting.proofs.Stub.{child-less, above-parent}
 
 -- j is the next visible node behind i that has i's nearest visible proper ancestor: its next sibling in the view.
 pub record NextSeen (t : Tree) (Seen : ℕ → Type 0) (i j : ℕ) : Type 0 where
@@ -26,10 +27,6 @@ pub record Beside (t : Tree) (Seen : ℕ → Type 0) (i j : ℕ) : Type 0 where
   pub left : Nearest t Seen i above
   pub right : Nearest t Seen j above
 
--- a node has one parent
-parent-unique : {t : Tree} {p q i : ℕ} → Child t p i → Child t q i → p ≡ q
-parent-unique c d = sym (c .parent) ∙ d .parent
-
 module _ {t : Tree} {Seen : ℕ → Type 0} where
   pub nearest-node : {p i : ℕ} → Nearest t Seen i p → i < length t
   nearest-node (parent c s) = c .node
@@ -45,16 +42,16 @@ module _ {t : Tree} {Seen : ℕ → Type 0} where
 
   -- a visible parent is the nearest
   nearest-parent : {q p i : ℕ} → Child t q i → Seen q → Nearest t Seen i p → q ≡ p
-  nearest-parent c s (parent d z) = parent-unique c d
-  nearest-parent c s (beyond d h n) = absurd (h (rw (parent-unique c d) at s))
+  nearest-parent c s (parent d z) = child-unique t c d
+  nearest-parent c s (beyond d h n) = absurd (h (rw (child-unique t c d) at s))
 
   -- through a hidden parent the nearest stays
   pub nearest-beyond : {q p i : ℕ} → Child t q i → ¬ Seen q → Nearest t Seen i p ↔ Nearest t Seen q p
   nearest-beyond {q} {p} {i} c h = (go, beyond c h)
     where
       go : Nearest t Seen i p → Nearest t Seen q p
-      go (parent d s) = absurd (h (rw (parent-unique d c) at s))
-      go (beyond d z n) = rw (parent-unique d c) at n
+      go (parent d s) = absurd (h (rw (child-unique t d c) at s))
+      go (beyond d z n) = rw (child-unique t d c) at n
 
   pub nearest-unique : {p q i : ℕ} → Nearest t Seen i p → Nearest t Seen i q → p ≡ q
   nearest-unique (parent c s) m = nearest-parent c s m
@@ -62,8 +59,8 @@ module _ {t : Tree} {Seen : ℕ → Type 0} where
 
   -- siblings have the same nearest
   pub nearest-sibling : {q p i j : ℕ} → Child t q i → Child t q j → Nearest t Seen i p → Nearest t Seen j p
-  nearest-sibling c d (parent b s) = parent (rw (parent-unique c b) at d) s
-  nearest-sibling c d (beyond b h n) = beyond (rw (parent-unique c b) at d) h n
+  nearest-sibling c d (parent b s) = parent (rw (child-unique t c b) at d) s
+  nearest-sibling c d (beyond b h n) = beyond (rw (child-unique t c b) at d) h n
 
   pub beside-trans : {i k j : ℕ} → Beside t Seen i k → Beside t Seen k j → Beside t Seen i j
   beside-trans x y = record { above = x .above; left = x .left; right = rw (nearest-unique (x .right) (y .left)) (y .right) }
@@ -78,8 +75,8 @@ module _ {t : Tree} (o : InOrder t) {Seen : ℕ → Type 0} where
 
   -- a visible proper ancestor is the nearest or above it
   pub nearest-lowest : {a p i : ℕ} → Nearest t Seen i p → Seen a → Above t a i → a ≢ i → Above t a p
-  nearest-lowest (parent c s) v x d = above-parent t o c x d
-  nearest-lowest {a} (beyond {q} c h n) v x d = nearest-lowest n v (above-parent t o c x d) (λ e. h (rw e at v))
+  nearest-lowest (parent c s) v x d = above-child t o c x d
+  nearest-lowest {a} (beyond {q} c h n) v x d = nearest-lowest n v (above-child t o c x d) (λ e. h (rw e at v))
 
 module _ (t : Tree) (o : InOrder t) (Seen : ℕ → Type 0) (dec : (i : ℕ) → Dec (Seen i)) (root : Seen 0) where
   -- up to n, every node but the root has a nearest: its parent, or its hidden parent's nearest

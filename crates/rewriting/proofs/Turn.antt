@@ -1,10 +1,37 @@
 -- Turning a path round: the turned path leads from i to j exactly where the path leads from j to i. Assumes nothing.
 use Prim.Native.Nat.{ℕ}
 use mathlib.Core.Path.{_≡_, sym, subst}
-use mathlib.Core.Logic.{_↔_, _⊎_, inl, inr, ⊎-map, Iff·rfl, eq-comm}
+use mathlib.Core.Logic.{_↔_, _⊎_, ⊎-map, Iff·rfl, eq-comm}
 use Rattle.tree.specs.Tree.{Tree}
 use Rattle.query.specs.Syntax.{Path, self, child, parent, next, previous, stay, then, either, star}
 use Rattle.query.specs.Meaning.{Star, stop, step, reach, holds}
+
+-- S is the relation R turned round
+abbrev pub Turned : (ℕ → ℕ → Type 0) → (ℕ → ℕ → Type 0) → Type 0
+Turned R S = (i j : ℕ) → S i j ↔ R j i
+
+-- one star after another is a star
+star-trans : {R : ℕ → ℕ → Type 0} {i k j : ℕ} → Star R i k → Star R k j → Star R i j
+star-trans stop s = s
+star-trans (step r q) s = step r (star-trans q s)
+
+-- a star is walked backwards where each of its steps is
+star-back : {R S : ℕ → ℕ → Type 0} → ((i j : ℕ) → R i j → S j i) → {i j : ℕ} → Star R i j → Star S j i
+star-back f stop = stop
+star-back f (step r s) = star-trans (star-back f s) (step (f _ _ r) stop)
+
+pub star-turned : {R S : ℕ → ℕ → Type 0} → Turned R S → Turned (Star R) (Star S)
+star-turned e i j = (star-back (λ a b. e a b .0), star-back (λ a b. e b a .1))
+
+pub then-turned : {P P′ Q Q′ : ℕ → ℕ → Type 0} → Turned P P′ → Turned Q Q′ → Turned (λ i j. (k : ℕ) × P i k × Q k j) (λ i j. (k : ℕ) × Q′ i k × P′ k j)
+then-turned d e i j = (λ h. (h .0, d _ _ .0 (h .2), e _ _ .0 (h .1)), λ h. (h .0, e _ _ .1 (h .2), d _ _ .1 (h .1)))
+
+pub either-turned : {P P′ Q Q′ : ℕ → ℕ → Type 0} → Turned P P′ → Turned Q Q′ → Turned (λ i j. P i j ⊎ Q i j) (λ i j. P′ i j ⊎ Q′ i j)
+either-turned d e i j = (⊎-map (d i j .0) (e i j .0), ⊎-map (d i j .1) (e i j .1))
+
+-- a filter stays where it is
+stay-back : (P : ℕ → Type 0) (i j : ℕ) → (i ≡ j) × P i → (j ≡ i) × P j
+stay-back P i j h = (sym (h .0), subst P (h .0) (h .1))
 
 -- each axis swapped with its opposite, and each composition with its parts in the other order
 unfoldable pub turn : Path → Path
@@ -18,35 +45,14 @@ turn (then p q) = then (turn q) (turn p)
 turn (either p q) = either (turn p) (turn q)
 turn (star p) = star (turn p)
 
--- one star after another is a star
-pub star-trans : {R : ℕ → ℕ → Type 0} {i k j : ℕ} → Star R i k → Star R k j → Star R i j
-star-trans stop s = s
-star-trans (step r q) s = step r (star-trans q s)
-
--- a star turned round, where each of its steps can be
-pub star-turn : {R S : ℕ → ℕ → Type 0} → ((i j : ℕ) → R i j → S j i) → {i j : ℕ} → Star R i j → Star S j i
-star-turn f stop = stop
-star-turn f (step r s) = star-trans (star-turn f s) (step (f _ _ r) stop)
-
-module _ (t : Tree) where
-  -- a filter's path, turned round, stays where it was
-  stay-turn : (P : ℕ → Type 0) (i j : ℕ) → ((i ≡ j) × P i) → (j ≡ i) × P j
-  stay-turn P i j h = (sym (h .0), subst P (h .0) (h .1))
-
-  pub turn-right : (p : Path) (i j : ℕ) → reach t (turn p) i j ↔ reach t p j i
-  unfolding reach turn ⊎-map
-  turn-right self i j = eq-comm
-  turn-right child i j = Iff·rfl
-  turn-right parent i j = Iff·rfl
-  turn-right next i j = Iff·rfl
-  turn-right previous i j = Iff·rfl
-  turn-right (stay f) i j = (stay-turn (holds t f) i j, stay-turn (holds t f) j i)
-  turn-right (then p q) i j = (
-    λ h. (h .0, turn-right p (h .0) j .0 (h .2), turn-right q i (h .0) .0 (h .1)),
-    λ h. (h .0, turn-right q i (h .0) .1 (h .2), turn-right p (h .0) j .1 (h .1)),
-  )
-  turn-right (either p q) i j = (
-    ⊎-map (turn-right p i j .0) (turn-right q i j .0),
-    ⊎-map (turn-right p i j .1) (turn-right q i j .1),
-  )
-  turn-right (star p) i j = (star-turn (λ a b. turn-right p a b .0), star-turn (λ a b. turn-right p b a .1))
+pub turn-right : (t : Tree) (p : Path) (i j : ℕ) → reach t (turn p) i j ↔ reach t p j i
+unfolding reach turn
+turn-right t self i j = eq-comm
+turn-right t child i j = Iff·rfl
+turn-right t parent i j = Iff·rfl
+turn-right t next i j = Iff·rfl
+turn-right t previous i j = Iff·rfl
+turn-right t (stay f) i j = (stay-back (holds t f) i j, stay-back (holds t f) j i)
+turn-right t (then p q) i j = then-turned (turn-right t p) (turn-right t q) i j
+turn-right t (either p q) i j = either-turned (turn-right t p) (turn-right t q) i j
+turn-right t (star p) i j = star-turned (turn-right t p) i j

@@ -4,12 +4,12 @@ use mathlib.Core.Path.{_≡_, refl, sym, subst}
 use mathlib.Core.Logic.{_↔_, Iff·not}
 use lib.ListN.{length}
 use Rattle.tree.specs.Tree.{Tree, Child, InOrder}
+use Rattle.tree.proofs.Order.{child-node}
 use Rattle.query.specs.Syntax.{Path, Filter, child, then}
 use Rattle.query.specs.Meaning.{Star, stop, step, reach, holds}
 use Rattle.view.specs.View.{Nearest, parent, beyond}
 use Rattle.rewriting.proofs.Formulas.{hidden, up, down}
 use Rattle.rewriting.proofs.Nearest.{nearest-seen, nearest-node}
-use Rattle.rewriting.proofs.Stub.{child-node}
 
 module _ (t : Tree) (o : InOrder t) (Seen : ℕ → Type 0) (dec : (i : ℕ) → Dec (Seen i)) (root : Seen 0) (vis : Filter) (right : (i : ℕ) → i < length t → holds t vis i ↔ Seen i) where
   -- up through hidden nodes to a visible one, which is the nearest
@@ -52,6 +52,7 @@ module _ (t : Tree) (o : InOrder t) (Seen : ℕ → Type 0) (dec : (i : ℕ) →
       there h =
           let n : Nearest t Seen j i = rw (h .2 .2 .0) at (descend (parent (h .1) s) (h .2 .1)) in
           (nearest-node n, right j (nearest-node n) .0 (rw (h .2 .2 .0) at (h .2 .2 .1)), n)
+
       back : (j < length t) × Seen j × Nearest t Seen j i → reach t (down vis) i j
       back h =
           let r = descended (h .2) stop in
