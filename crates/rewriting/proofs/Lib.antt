@@ -1,7 +1,7 @@
 pub mod Formulas
+pub mod VisibleFilter
 pub mod Turn
-pub mod Nearest
 pub mod Updown
-pub mod Stretch
+pub mod Beside
 pub mod Sideways
 pub mod Backwards

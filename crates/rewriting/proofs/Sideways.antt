@@ -1,107 +1,124 @@
 -- The next sibling in the view: what `skip`, `onwards` and `forwards` reach on the tree. Assumes nothing.
 use Prim.Native.Nat.{ℕ, zero, suc, _+_, _-_, _≤_, _<_}
-use native.Mathlib.Nat.{le-refl}
+use native.Mathlib.Nat.{le-refl, pos-of-ne-zero}
 use native.Mathlib.Omega.{arith}
 use mathlib.Core.Path.{_≡_, refl, sym, _∙_}
-use mathlib.Core.Logic.{_↔_, inl, inr, ⊎-elim, Iff·not}
+use mathlib.Core.Logic.{_↔_, inl, inr, ⊎-elim, ⊎-map, Iff·not}
 use lib.ListN.{length}
 use Rattle.tree.specs.Tree.{Tree, Child, Next, InOrder}
 use Rattle.tree.proofs.Order.{child-node}
-use Rattle.tree.proofs.Runs.{end, end-behind, behind-run, runs-nest, child-or-end, first-has-no-previous, no-previous-is-first, next-is-end, sibling-or-last}
+use Rattle.tree.proofs.Runs.{end, end-behind, behind-run, sibling-or-last, next-is-end}
+use Rattle.tree.proofs.Runs.{child-or-end, first-has-no-previous, no-previous-is-first}
 use Rattle.query.specs.Syntax.{Path, Filter, child, next, previous, then, either}
 use Rattle.query.specs.Meaning.{Star, stop, step, reach, holds}
 use Rattle.view.specs.View.{Nearest, parent, beyond}
+use Rattle.view.proofs.Nearest.{NextSeen, nearest-above, nearest-node, nearest-exists}
 use Rattle.rewriting.proofs.Formulas.{no, hidden, skip, onwards, forwards}
-use Rattle.rewriting.proofs.Nearest.{NextSeen, Beside, beside-trans, nearest-node, nearest-above, nearest-sibling, nearest-exists}
-use Rattle.rewriting.proofs.Stretch.{Unseen, unseen-none, unseen-one, unseen-join, nearest-inside, nearest-behind}
+use Rattle.rewriting.proofs.Beside.{Beside, beside-trans, nearest-sibling, nearest-outside, nearest-behind}
+use Rattle.rewriting.proofs.Beside.{Unseen, unseen-none, unseen-one, unseen-join}
 
-module _ (t : Tree) (o : InOrder t) (Seen : ℕ → Type 0) (dec : (i : ℕ) → Dec (Seen i)) (root : Seen 0) (vis : Filter) (right : (i : ℕ) → i < length t → holds t vis i ↔ Seen i) where
-  -- out of last children of hidden nodes and on to a next sibling: that is the end of the run, under the same nearest
+module _ (t : Tree) (o : InOrder t) (Seen : ℕ → Type 0) (dec : (i : ℕ) → Dec (Seen i)) (root : Seen 0)
+    (vis : Filter) (right : (i : ℕ) → i < length t → holds t vis i ↔ Seen i) where
+  -- out of last children of hidden nodes, and on to a next sibling: that is the end of the run, with the same nearest
   skipped : {k m j : ℕ} → Star (reach t (then (no next) (then Path.parent (hidden vis)))) k m → Next t m j → (j ≡ end t k) × Beside t Seen k j
   unfolding reach
   skipped stop n =
-      let p = nearest-exists t o Seen dec root _ (n .left .later) (n .left .node) in
-      (next-is-end t o n, record { above = p .0; left = p .1; right = nearest-sibling (n .left) (n .right) (p .1) })
-  skipped {k} {m} {j} (step {k = q} r rest) n =
-      let c : Child t q k = rw (r .1 .0, ← r .2 .2 .0) (r .2 .1) in
-      let h : ¬ Seen q = Iff·not (right q (child-node t o c)) .0 (rw (← r .2 .2 .0) (r .2 .2 .1)) in
-      let b = skipped rest n in
-      ⊎-elim
-      (λ x. absurd (r .1 .1 (_, x)))
-      (λ x. (b .0 ∙ sym (x .0), record { above = b .1 .above; left = beyond c h (b .1 .left); right = b .1 .right }))
-      (sibling-or-last t o c)
+      let (p, x) = nearest-exists o dec root _ (n .left .later) (n .left .node) in
+      (next-is-end t o n, record { above = p; left = x; right = nearest-sibling (n .left) (n .right) x })
+  skipped {k} (step {k = q} (k′, (e, last), (q′, c′, (f, v))) more) n =
+      let c : Child t q k = rw (e, ← f) c′ in
+      let h : ¬ Seen q = Iff·not (right q (child-node t o c)) .0 (rw f at v) in
+      let (same, b) = skipped more n in
+      let ends : end t k ≡ end t q = ⊎-elim (λ x. absurd (last (_, x))) (λ x. x .0) (sibling-or-last t o c) in
+      (same ∙ sym ends, record { above = b .above; left = beyond c h (b .left); right = b .right })
 
-  -- and there is such a way, since a last child's run ends where its parent's does, which is outside the parent's run
+  -- from a last child of a hidden node, `skip` goes where it goes from that node
+  skip-out : {q k : ℕ} (j : ℕ) → Child t q k → ¬ Seen q → ((m : ℕ) → ¬ Next t k m) → reach t (skip vis) q j → reach t (skip vis) k j
+  unfolding reach skip
+  skip-out j c h last (m, more, n) =
+      let out = Iff·not (right _ (child-node t o c)) .1 h in
+      (m, step (_, (refl, λ (x, y). last x y), (_, c, (refl, out))) more, n)
+
+  -- so `skip` goes to the end of the run, if it has the same nearest: it is a next sibling, or the end of the parent's run too, and then
+  -- the parent is hidden
   skipping : {k j p : ℕ} → Nearest t Seen k p → Nearest t Seen j p → j ≡ end t k → reach t (skip vis) k j
   unfolding reach skip
-  skipping (parent c s) m e =
-      let b = behind-run t o _ (nearest-node m) (nearest-above m) in
-      ⊎-elim (λ x. (_, stop, rw e x)) (λ x. absurd (omega arith)) (sibling-or-last t o c)
-  skipping (beyond c h n) m e =
-      ⊎-elim
-      (λ x. (_, stop, rw e x))
-      (λ x.
-      let r = skipping n m (e ∙ x .0) in
-      let v = Iff·not (right _ (child-node t o c)) .1 h in
-      (r .0, step (_, (refl, λ y. x .1 (y .0) (y .1)), (_, c, (refl, v))) (r .1), r .2))
-      (sibling-or-last t o c)
+  skipping (parent c s) y e =
+      let inside = behind-run t o _ (nearest-node y) (nearest-above y) in
+      ⊎-elim (λ n. (_, stop, rw e n)) (λ x. absurd (omega arith)) (sibling-or-last t o c)
+  skipping (beyond c h x) y e = ⊎-elim (λ n. (_, stop, rw e n)) (λ (f, last). skip-out _ c h last (skipping x y (e ∙ f))) (sibling-or-last t o c)
 
-  -- `skip` goes to the end of the run, if that is a node with the same nearest
-  pub skip-reaches : (k j : ℕ) → reach t (skip vis) k j ↔ ((j ≡ end t k) × Beside t Seen k j)
+  skip-reaches : (k j : ℕ) → reach t (skip vis) k j ↔ ((j ≡ end t k) × Beside t Seen k j)
   unfolding reach skip
-  skip-reaches k j = (λ h. skipped (h .1) (h .2), λ h. skipping (h .1 .left) (h .1 .right) (h .0))
+  skip-reaches k j = (λ (m, more, n). skipped more n, λ (e, b). skipping (b .left) (b .right) e)
 
-  -- a hidden node is not the root
-  hidden-later : (k : ℕ) → ¬ Seen k → 0 < k
-  hidden-later zero h = absurd (h root)
-  hidden-later (suc k) h = omega arith
+  -- the child without a previous sibling is the record behind
+  first-reaches : (k j : ℕ) → reach t (then child (no previous)) k j ↔ ((j ≡ suc k) × Child t k j)
+  unfolding reach
+  first-reaches k j = (there, λ (e, c). (j, c, (refl, λ (i, n). first-has-no-previous t o (rw e at c) i (rw e at n))))
+    where
+      there : reach t (then child (no previous)) k j → (j ≡ suc k) × Child t k j
+      there (m, c, (e, first)) =
+          let d : Child t k j = rw e at c in
+          (no-previous-is-first t o d (λ i n. first (i, rw e n)), d)
+
+  -- from a node without children, `skip` goes to the record behind
+  leaf-reaches : (k j : ℕ) → reach t (then (no child) (skip vis)) k j ↔ (((m : ℕ) → ¬ Child t k m) × (j ≡ suc k) × Beside t Seen k j)
+  unfolding reach
+  leaf-reaches k j = (there, λ (none, e, b). (k, (refl, λ (m, c). none m c), skip-reaches k j .1 (e ∙ sym (ends none b), b)))
+    where
+      ends : ((m : ℕ) → ¬ Child t k m) → Beside t Seen k j → end t k ≡ suc k
+      ends none b = ⊎-elim (λ c. absurd (none _ c)) (λ x. x .0) (child-or-end t o k (nearest-node (b .left)))
+
+      there : reach t (then (no child) (skip vis)) k j → ((m : ℕ) → ¬ Child t k m) × (j ≡ suc k) × Beside t Seen k j
+      there (m, (f, none), r) =
+          let (e, b) = skip-reaches k j .0 (rw f r) in
+          let childless : (m : ℕ) → ¬ Child t k m = λ m c. none (m, c) in
+          (childless, e ∙ ends childless b, b)
 
   -- `onwards` goes from a hidden node to the record behind it, if that is a node with the same nearest
   onwards-reaches : (k j : ℕ) → reach t (onwards vis) k j ↔ ((¬ Seen k) × (j ≡ suc k) × Beside t Seen k j)
   unfolding reach onwards
-  onwards-reaches k j = (λ h. there (h .1 .1) (rw (h .1 .0) (h .2)), λ h. back (h .0) (h .1) (h .2))
+  onwards-reaches k j = (λ (m, (e, v), r). there v (rw e r), λ (h, e, b). back h e b)
     where
-      there : ¬ holds t vis k → reach t (either (then child (no previous)) (then (no child) (skip vis))) k j → (¬ Seen k) × (j ≡ suc k) × Beside t Seen k j
-      there v (inl x) =
-          let c : Child t k j = rw (x .2 .0) at (x .1) in
+      there : ¬ holds t vis k → reach t (either (then child (no previous)) (then (no child) (skip vis))) k j
+          → (¬ Seen k) × (j ≡ suc k) × Beside t Seen k j
+      there v (inl r) =
+          let (e, c) = first-reaches k j .0 r in
           let h = Iff·not (right k (child-node t o c)) .0 v in
-          let p = nearest-exists t o Seen dec root k (hidden-later k h) (child-node t o c) in
-          let e = no-previous-is-first t o c (λ m n. x .2 .1 (m, rw (x .2 .0) n)) in
-          (h, e, record { above = p .0; left = p .1; right = beyond c h (p .1) })
-      there v (inr x) =
-          let s = skip-reaches k j .0 (rw (x .1 .0) (x .2)) in
-          let l = nearest-node (s .1 .left) in
-          ⊎-elim (λ c. absurd (x .1 .1 (_, c))) (λ e. (Iff·not (right k l) .0 v, s .0 ∙ e .0, s .1)) (child-or-end t o k l)
+          let (p, x) = nearest-exists o dec root k (pos-of-ne-zero (λ z. h (rw z root))) (child-node t o c) in
+          (h, e, record { above = p; left = x; right = beyond c h x })
+      there v (inr r) =
+          let (none, e, b) = leaf-reaches k j .0 r in
+          (Iff·not (right k (nearest-node (b .left))) .0 v, e, b)
 
       back : ¬ Seen k → j ≡ suc k → Beside t Seen k j → reach t (onwards vis) k j
       back h e b =
           let l = nearest-node (b .left) in
           let v = Iff·not (right k l) .1 h in
-          ⊎-elim
-          (λ c. (k, (refl, v), inl (suc k, c, (sym e, λ x. first-has-no-previous t o c (x .0) (x .1)))))
-          (λ x. (k, (refl, v), inr (k, (refl, λ y. x .1 (y .0) (y .1)), skip-reaches k j .1 (e ∙ sym (x .0), b))))
-          (child-or-end t o k l)
+          (k, (refl, v), ⊎-map (λ c. first-reaches k j .1 (e, rw e c)) (λ (f, none). leaf-reaches k j .1 (none, e, b)) (child-or-end t o k l))
 
-  -- many times `onwards`: over hidden nodes, under the same nearest
+  -- many times `onwards`: over hidden nodes, with the same nearest
   walked : {i k j : ℕ} → Beside t Seen i k → Star (reach t (onwards vis)) k j → (k ≤ j) × Beside t Seen i j × Unseen Seen k j
   walked b stop = (le-refl _, b, unseen-none Seen _)
-  walked b (step r rest) =
-      let s = onwards-reaches _ _ .0 r in
-      let w = walked (beside-trans b (s .2)) rest in
-      (omega arith, w .1, unseen-join Seen (unseen-one Seen (s .0)) (rw (s .1) at (w .2)))
+  walked b (step r more) =
+      let (h, e, c) = onwards-reaches _ _ .0 r in
+      let (far, d, g) = walked (beside-trans b c) more in
+      (omega arith, d, unseen-join Seen (unseen-one Seen h) (rw e at g))
 
-  -- and there is such a way, d nodes long, up to the next visible node with i's nearest
+  -- and there is such a way, d nodes long, to the next visible node with the nearest of i
   walking : {i j : ℕ} → NextSeen t Seen i j → (d m : ℕ) → m + d ≡ j → end t i ≤ m → Unseen Seen (end t i) m → Star (reach t (onwards vis)) m j
   walking {i} {j} n zero m e a h =
-      let z : j ≡ m = omega arith in
-      rw z stop
+      let same : j ≡ m = omega arith in
+      rw same stop
   walking {i} {j} n (suc d) m e a h =
-      let b = end-behind t o i (nearest-node (n .left)) in
-      let x = nearest-behind t o Seen dec root (n .left) (n .right) a (omega arith) h in
+      let behind = end-behind t o i (nearest-node (n .left)) in
+      let x = nearest-behind o dec root (n .left) (n .right) a (omega arith) h in
       let v : ¬ Seen m = λ s. n .between m (omega arith) (omega arith) s x in
       let g = unseen-join Seen h (unseen-one Seen v) in
-      let y = nearest-behind t o Seen dec root (n .left) (n .right) (omega arith) (omega arith) g in
-      step (onwards-reaches m (suc m) .1 (v, refl, record { above = n .above; left = x; right = y })) (walking n d (suc m) (omega arith) (omega arith) g)
+      let y = nearest-behind o dec root (n .left) (n .right) (omega arith) (omega arith) g in
+      let on = onwards-reaches m (suc m) .1 (v, refl, record { above = n .above; left = x; right = y }) in
+      step on (walking n d (suc m) (omega arith) (omega arith) g)
 
   -- the next sibling in the view
   pub forwards-reaches : {i j : ℕ} → i < length t → Seen i → reach t (forwards vis) i j ↔ NextSeen t Seen i j
@@ -109,30 +126,25 @@ module _ (t : Tree) (o : InOrder t) (Seen : ℕ → Type 0) (dec : (i : ℕ) →
   forwards-reaches {i} {j} l s = (there, back)
     where
       there : reach t (forwards vis) i j → NextSeen t Seen i j
-      there h =
-          let x = skip-reaches i (h .0) .0 (h .1) in
-          let w = walked (x .1) (rw (h .2 .2 .0) at (h .2 .1)) in
-          let a = end-behind t o i l in
-          let z = nearest-node (w .1 .right) in
+      there (k, r, (m, more, (e, v))) =
+          let (f, c) = skip-reaches i k .0 r in
+          let (far, b, h) = walked c (rw e at more) in
+          let behind = end-behind t o i l in
+          let node = nearest-node (b .right) in
           record {
-            above = w .1 .above;
-            left = w .1 .left;
-            right = w .1 .right;
+            above = b .above;
+            left = b .left;
+            right = b .right;
             order = omega arith;
-            node = z;
-            visible = right j z .0 (rw (h .2 .2 .0) at (h .2 .2 .1));
-            between = λ m u v y. ⊎-elim
-                (λ b. absurd (w .2 m (omega arith) v y))
-                (λ b. nearest-inside o s u (b .0) (w .1 .left))
-                (runs-nest t o {a = i} {b = m} (omega arith) (omega arith));
+            node = node;
+            visible = right j node .0 (rw e at v);
+            between = λ n u w z y. h n (rw f (nearest-outside o s u (b .left) y)) w z;
           }
 
       back : NextSeen t Seen i j → reach t (forwards vis) i j
       back n =
-          let a : end t i ≤ j = ⊎-elim
-          (λ b. b)
-          (λ b. absurd (nearest-inside o s (n .order) (b .0) (n .left) (n .right)))
-          (runs-nest t o {a = i} (n .node) (omega arith)) in
-          let x = nearest-behind t o Seen dec root (n .left) (n .right) (le-refl _) a (unseen-none Seen _) in
-          let y = walking n (j - end t i) (end t i) (omega arith) (le-refl _) (unseen-none Seen _) in
-          (end t i, skip-reaches i (end t i) .1 (refl, record { above = n .above; left = n .left; right = x }), (j, y, (refl, right j (n .node) .1 (n .visible))))
+          let far = nearest-outside o s (n .order) (n .left) (n .right) in
+          let x = nearest-behind o dec root (n .left) (n .right) (le-refl _) far (unseen-none Seen _) in
+          let r = skip-reaches i (end t i) .1 (refl, record { above = n .above; left = n .left; right = x }) in
+          let more = walking n (j - end t i) (end t i) (omega arith) (le-refl _) (unseen-none Seen _) in
+          (end t i, r, (j, more, (refl, right j (n .node) .1 (n .visible))))

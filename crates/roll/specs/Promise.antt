@@ -12,7 +12,7 @@ use Rattle.roll.specs.Roll.{nodes, Roll, RollFault}
 
 -- Call 1 "gives the number of nodes". It is lent nothing.
 unfoldable pub RollChecked : Bytes → Said → Type 0
-RollChecked roll said = Outcome 0 (Roll roll) (RollFault roll) (λ c after. c ≡ length (nodes roll)) [] said []
+RollChecked roll said = Outcome 0 (Roll roll) (RollFault roll) (λ c after. (c ≡ length (nodes roll)) × (after ≡ [])) [] said []
 
 -- Call 7 "gives back the part of the caller's table that holds a record and all its descendants, its first byte being the record's own.
 -- A bad roll or a record number not in it gives an empty part".

@@ -1,0 +1,1 @@
+// The worked cases of the definitions: no code.

@@ -1,0 +1,92 @@
+-- The four axes: between visible nodes, a rewritten axis does on the tree what the axis does on the view between their positions. Assumes
+-- nothing.
+use Prim.Native.Nat.{ℕ, _<_}
+use mathlib.Core.Logic.{_↔_, Iff·symm, Iff·trans}
+use lib.ListN.{length}
+use Rattle.tree.specs.Tree.{Tree, InOrder}
+use Rattle.query.specs.Syntax.{Path, Filter, child, parent, next, previous}
+use Rattle.query.specs.Meaning.{reach}
+use Rattle.query.proofs.Inside.{reach-inside}
+use Rattle.view.specs.View.{Position, Nearest, View}
+use Rattle.view.proofs.Nearest.{NextSeen, nearest-seen}
+use Rattle.view.proofs.Positions.{position-exists}
+use Rattle.view.proofs.Carried.{view-node, view-position, child-carried, next-carried}
+use Rattle.view.proofs.Order.{view-in-order}
+use Rattle.rewriting.proofs.Formulas.{rewritten, down, up, forwards, backwards}
+use Rattle.faithful.proofs.Induction.{Alike, Grounds}
+
+-- What the four rewritten axes reach.
+pub record Reaches (t : Tree) (Seen : ℕ → Type 0) (vis : Filter) : Type 0 where
+  pub down-reaches : {i j : ℕ} → i < length t → Seen i → reach t (down vis) i j ↔ ((j < length t) × Seen j × Nearest t Seen j i)
+  pub up-reaches : {i j : ℕ} → i < length t → reach t (up vis) i j ↔ Nearest t Seen i j
+  pub forwards-reaches : {i j : ℕ} → i < length t → Seen i → reach t (forwards vis) i j ↔ NextSeen t Seen i j
+  pub backwards-reaches : {i j : ℕ} → i < length t → Seen i → reach t (backwards vis) i j ↔ (NextSeen t Seen j i × Seen j × (j < length t))
+
+-- a is the view position of the node i.
+pub record Stands (t : Tree) (Seen : ℕ → Type 0) (i a : ℕ) : Type 0 where
+  pub node : i < length t
+  pub position : Position Seen i a
+
+module _ {t : Tree} (o : InOrder t) {Seen : ℕ → Type 0} (dec : (i : ℕ) → Dec (Seen i)) (root : Seen 0) {v : Tree} (view : View t Seen v) where
+  -- p on the tree is like x on the view, if it leads to visible nodes only, and to such a node exactly where x leads to its position
+  axis-alike : {p x : Path}
+      → ((i a j : ℕ) → Stands t Seen i a → reach t p i j → Seen j)
+      → ((i a j b : ℕ) → Stands t Seen i a → Stands t Seen j b → reach t p i j ↔ reach v x a b)
+      → Alike t v (Stands t Seen) p x
+  axis-alike {p} {x} visible carried = record { forth = record { move = forth }; back = record { move = back } }
+    where
+      forth : {i a j : ℕ} → Stands t Seen i a → reach t p i j → (b : ℕ) × Stands t Seen j b × reach v x a b
+      forth {i} {a} {j} z r =
+          let (b, y) = position-exists dec (visible i a j z r) in
+          let w : Stands t Seen j b = record { node = reach-inside t o p (z .node) r; position = y } in
+          (b, w, carried i a j b z w .0 r)
+
+      back : {a i b : ℕ} → Stands t Seen i a → reach v x a b → (j : ℕ) × Stands t Seen j b × reach t p i j
+      back {a} {i} {b} z r =
+          let inside = reach-inside v (view-in-order o dec root view) x (view-position view (z .node) (z .position)) r in
+          let (j, l, y) = view-node view inside in
+          let w : Stands t Seen j b = record { node = l; position = y } in
+          (j, w, carried i a j b z w .1 r)
+
+  module _ (vis : Filter) (reaches : Reaches t Seen vis) where
+    child-alike : Alike t v (Stands t Seen) (rewritten vis child) child
+    unfolding rewritten reach
+    child-alike = axis-alike (λ i a j z r. reached z .0 r .1) (λ i a j b z w.
+        let carried = child-carried o dec root view (z .position) (w .position) (w .node) in
+        (λ r. carried .1 (reached z .0 r .2), λ c. reached z .1 (w .node, w .position .visible, carried .0 c)))
+      where
+        reached : {i a j : ℕ} → Stands t Seen i a → reach t (down vis) i j ↔ ((j < length t) × Seen j × Nearest t Seen j i)
+        reached z = reaches .down-reaches (z .node) (z .position .visible)
+
+    parent-alike : Alike t v (Stands t Seen) (rewritten vis parent) parent
+    unfolding rewritten reach
+    parent-alike =
+        axis-alike (λ i a j z r. nearest-seen (reaches .up-reaches (z .node) .0 r)) (λ i a j b z w.
+        Iff·trans (reaches .up-reaches (z .node)) (Iff·symm (child-carried o dec root view (w .position) (z .position) (z .node))))
+
+    next-alike : Alike t v (Stands t Seen) (rewritten vis next) next
+    unfolding rewritten reach
+    next-alike =
+        axis-alike (λ i a j z r. (reaches .forwards-reaches (z .node) (z .position .visible) .0 r) .visible) (λ i a j b z w.
+        Iff·trans (reaches .forwards-reaches (z .node) (z .position .visible))
+        (Iff·symm (next-carried o dec root view (z .position) (z .node) (w .position) (w .node))))
+
+    previous-alike : Alike t v (Stands t Seen) (rewritten vis previous) previous
+    unfolding rewritten reach
+    previous-alike = axis-alike (λ i a j z r. reached z .0 r .1) (λ i a j b z w.
+        let carried = next-carried o dec root view (w .position) (w .node) (z .position) (z .node) in
+        (λ r. carried .1 (reached z .0 r .0), λ n. reached z .1 (carried .0 n, w .position .visible, w .node)))
+      where
+        reached : {i a j : ℕ} → Stands t Seen i a → reach t (backwards vis) i j ↔ (NextSeen t Seen j i × Seen j × (j < length t))
+        reached z = reaches .backwards-reaches (z .node) (z .position .visible)
+
+    -- the grounds of the rewriting, between nodes and their view positions
+    pub grounds : Grounds t v (Stands t Seen) vis
+    grounds =
+        record {
+          label = λ z. view .label (z .node) (z .position);
+          child = child-alike;
+          parent = parent-alike;
+          next = next-alike;
+          previous = previous-alike;
+        }

@@ -1,0 +1,74 @@
+-- Rewriting over all syntax: where the four rewritten axes do on one tree what the axes do on another, every rewritten path and filter does.
+-- Assumes nothing.
+use Prim.Native.Nat.{ℕ}
+use mathlib.Core.Path.{_≡_, sym, _∙_}
+use Rattle.tree.specs.Tree.{Tree, labelAt}
+use Rattle.query.specs.Syntax.{Path, self, child, parent, next, previous, stay, then, either, star}
+use Rattle.query.specs.Syntax.{Filter, labelled, leads, always, never, not, and, or}
+use Rattle.query.specs.Meaning.{holds}
+use Rattle.rewriting.proofs.Formulas.{rewritten, rewrittenFilter}
+use Rattle.faithful.proofs.Simulation.{Follows, Implies, turned, follows-self, follows-stay, follows-then, follows-either, follows-star}
+use Rattle.faithful.proofs.Simulation.{implies-leads, implies-not, implies-and, implies-or}
+
+-- Between tied nodes, p on t and q on u lead to tied nodes.
+pub record Alike (t u : Tree) (Tied : ℕ → ℕ → Type 0) (p q : Path) : Type 0 where
+  pub forth : Follows t u Tied p q
+  pub back : Follows u t (turned Tied) q p
+
+-- At tied nodes, f on t and g on u both hold or both do not.
+pub record Agree (t u : Tree) (Tied : ℕ → ℕ → Type 0) (f g : Filter) : Type 0 where
+  pub forth : Implies t u Tied f g
+  pub back : Implies u t (turned Tied) g f
+
+-- What the rewriting rests on: tied nodes have one label, and between them each rewritten axis does on t what the axis does on u.
+pub record Grounds (t u : Tree) (Tied : ℕ → ℕ → Type 0) (vis : Filter) : Type 0 where
+  pub label : {i a : ℕ} → Tied i a → labelAt u a ≡ labelAt t i
+  pub child : Alike t u Tied (rewritten vis Path.child) Path.child
+  pub parent : Alike t u Tied (rewritten vis Path.parent) Path.parent
+  pub next : Alike t u Tied (rewritten vis Path.next) Path.next
+  pub previous : Alike t u Tied (rewritten vis Path.previous) Path.previous
+
+module _ {t u : Tree} {Tied : ℕ → ℕ → Type 0} (vis : Filter) (grounds : Grounds t u Tied vis) where
+  mutual
+    unfolding rewritten holds
+
+    pub paths-alike : (p : Path) → Alike t u Tied (rewritten vis p) p
+    paths-alike self = record { forth = follows-self; back = follows-self }
+    paths-alike child = grounds .child
+    paths-alike parent = grounds .parent
+    paths-alike next = grounds .next
+    paths-alike previous = grounds .previous
+    paths-alike (stay f) =
+        let h = filters-agree f in
+        record { forth = follows-stay (h .forth); back = follows-stay (h .back) }
+    paths-alike (then p q) =
+        let h = paths-alike p in
+        let k = paths-alike q in
+        record { forth = follows-then (h .forth) (k .forth); back = follows-then (h .back) (k .back) }
+    paths-alike (either p q) =
+        let h = paths-alike p in
+        let k = paths-alike q in
+        record { forth = follows-either (h .forth) (k .forth); back = follows-either (h .back) (k .back) }
+    paths-alike (star p) =
+        let h = paths-alike p in
+        record { forth = follows-star (h .forth); back = follows-star (h .back) }
+
+    pub filters-agree : (f : Filter) → Agree t u Tied (rewrittenFilter vis f) f
+    filters-agree (labelled l) =
+        record { forth = record { keep = λ z e. grounds .label z ∙ e }; back = record { keep = λ z e. sym (grounds .label z) ∙ e } }
+    filters-agree (leads p) =
+        let h = paths-alike p in
+        record { forth = implies-leads (h .forth); back = implies-leads (h .back) }
+    filters-agree always = record { forth = record { keep = λ z h. h }; back = record { keep = λ z h. h } }
+    filters-agree never = record { forth = record { keep = λ z h. h }; back = record { keep = λ z h. h } }
+    filters-agree (not f) =
+        let h = filters-agree f in
+        record { forth = implies-not (h .back); back = implies-not (h .forth) }
+    filters-agree (and f g) =
+        let h = filters-agree f in
+        let k = filters-agree g in
+        record { forth = implies-and (h .forth) (k .forth); back = implies-and (h .back) (k .back) }
+    filters-agree (or f g) =
+        let h = filters-agree f in
+        let k = filters-agree g in
+        record { forth = implies-or (h .forth) (k .forth); back = implies-or (h .back) (k .back) }

@@ -1,0 +1,4 @@
+pub mod Simulation
+pub mod Induction
+pub mod Axes
+pub mod Theorem

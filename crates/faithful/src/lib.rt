@@ -1,0 +1,1 @@
+// The theorem that the rewriting is right: no code.

@@ -1,0 +1,7 @@
+pub mod Inside
+pub mod Tests
+pub mod Sets
+pub mod Steps
+pub mod Rounds
+pub mod Deciding
+pub mod Answers

@@ -1,0 +1,6 @@
+pub mod Nearest
+pub mod Positions
+pub mod Carried
+pub mod Order
+pub mod Deciding
+pub mod Cutting
