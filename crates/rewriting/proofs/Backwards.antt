@@ -1,10 +1,10 @@
 -- The previous sibling in the view: `backwards` is `forwards` turned round. Assumes nothing.
 use Prim.Native.Nat.{ℕ, _<_}
-use mathlib.Core.Path.{_≡_, refl}
+use mathlib.Core.Path.{refl}
 use mathlib.Core.Logic.{_↔_}
 use lib.ListN.{length}
 use Rattle.tree.specs.Tree.{Tree, InOrder}
-use Rattle.query.specs.Syntax.{Path, Filter, child, parent, next, previous, then, either}
+use Rattle.query.specs.Syntax.{Filter, child, parent, next, previous, then, either}
 use Rattle.query.specs.Meaning.{reach, holds}
 use Rattle.query.proofs.Inside.{reach-inside}
 use Rattle.view.proofs.Nearest.{NextSeen}

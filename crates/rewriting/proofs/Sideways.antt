@@ -39,8 +39,7 @@ module _ (t : Tree) (o : InOrder t) (Seen : ℕ → Type 0) (dec : (i : ℕ) →
       let out = Iff·not (right _ (child-node t o c)) .1 h in
       (m, step (_, (refl, λ (x, y). last x y), (_, c, (refl, out))) more, n)
 
-  -- so `skip` goes to the end of the run, if it has the same nearest: it is a next sibling, or the end of the parent's run too, and then
-  -- the parent is hidden
+  -- so there is such a way: the end of the run is a next sibling or ends the parent's run too, and then the parent is hidden
   skipping : {k j p : ℕ} → Nearest t Seen k p → Nearest t Seen j p → j ≡ end t k → reach t (skip vis) k j
   unfolding reach skip
   skipping (parent c s) y e =
@@ -48,6 +47,7 @@ module _ (t : Tree) (o : InOrder t) (Seen : ℕ → Type 0) (dec : (i : ℕ) →
       ⊎-elim (λ n. (_, stop, rw e n)) (λ x. absurd (omega arith)) (sibling-or-last t o c)
   skipping (beyond c h x) y e = ⊎-elim (λ n. (_, stop, rw e n)) (λ (f, last). skip-out _ c h last (skipping x y (e ∙ f))) (sibling-or-last t o c)
 
+  -- `skip` goes to the end of the run, if that is a node with the same nearest
   skip-reaches : (k j : ℕ) → reach t (skip vis) k j ↔ ((j ≡ end t k) × Beside t Seen k j)
   unfolding reach skip
   skip-reaches k j = (λ (m, more, n). skipped more n, λ (e, b). skipping (b .left) (b .right) e)

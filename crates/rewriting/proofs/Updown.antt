@@ -1,6 +1,6 @@
 -- Parent and child in the view: what `up` and `down` reach on the tree. Assumes nothing.
 use Prim.Native.Nat.{ℕ, _<_}
-use mathlib.Core.Path.{_≡_, refl}
+use mathlib.Core.Path.{refl}
 use mathlib.Core.Logic.{_↔_, Iff·not}
 use lib.ListN.{length}
 use Rattle.tree.specs.Tree.{Tree, Child, InOrder}
