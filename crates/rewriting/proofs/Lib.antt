@@ -1,2 +1,7 @@
 pub mod Formulas
 pub mod VisibleFilter
+pub mod Turn
+pub mod Updown
+pub mod Beside
+pub mod Sideways
+pub mod Backwards
