@@ -1,7 +1,7 @@
-pub mod Formulas
+pub mod Rewriting
+pub mod Simulation
+pub mod Induction
+pub mod Axes
+pub mod Theorem
+pub mod Twice
 pub mod VisibleFilter
-pub mod Turn
-pub mod Updown
-pub mod Beside
-pub mod Sideways
-pub mod Backwards

@@ -1,1 +1,1 @@
-// The rewriting of syntax and the theorem that it is right: no code.
+// The rewriting of queries and the theorem that it is right: no code.

@@ -8,9 +8,9 @@ use Rattle.query.specs.Syntax.{Filter, child, parent, next, previous, then, eit
 use Rattle.query.specs.Meaning.{reach, holds}
 use Rattle.query.proofs.Inside.{reach-inside}
 use Rattle.view.proofs.Nearest.{NextSeen}
-use Rattle.rewriting.proofs.Formulas.{no, hidden, skip, onwards, forwards, back, backwards}
-use Rattle.rewriting.proofs.Turn.{Turned, turn, turn-right, then-turned, either-turned, star-turned}
-use Rattle.rewriting.proofs.Sideways.{forwards-reaches}
+use Rattle.axes.proofs.Formulas.{no, hidden, skip, onwards, forwards, back, backwards}
+use Rattle.axes.proofs.Turn.{Turned, turn, turn-right, then-turned, either-turned, star-turned}
+use Rattle.axes.proofs.Sideways.{forwards-reaches}
 
 -- three relations one after another, grouped to the left, may be grouped to the right
 regrouped : {P Q R S : ℕ → ℕ → Type 0} → Turned S (λ i j. (m : ℕ) × ((k : ℕ) × P i k × Q k m) × R m j)

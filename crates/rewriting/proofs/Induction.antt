@@ -6,9 +6,9 @@ use Rattle.tree.specs.Tree.{Tree, labelAt}
 use Rattle.query.specs.Syntax.{Path, self, child, parent, next, previous, stay, then, either, star}
 use Rattle.query.specs.Syntax.{Filter, labelled, leads, always, never, not, and, or}
 use Rattle.query.specs.Meaning.{holds}
-use Rattle.rewriting.proofs.Formulas.{rewritten, rewrittenFilter}
-use Rattle.faithful.proofs.Simulation.{Follows, Implies, turned, follows-self, follows-stay, follows-then, follows-either, follows-star}
-use Rattle.faithful.proofs.Simulation.{implies-leads, implies-not, implies-and, implies-or}
+use Rattle.rewriting.proofs.Rewriting.{rewritten, rewrittenFilter}
+use Rattle.rewriting.proofs.Simulation.{Follows, Implies, turned, follows-self, follows-stay, follows-then, follows-either, follows-star}
+use Rattle.rewriting.proofs.Simulation.{implies-leads, implies-not, implies-and, implies-or}
 
 -- Between tied nodes, p on t and q on u lead to tied nodes.
 pub record Alike (t u : Tree) (Tied : ℕ → ℕ → Type 0) (p q : Path) : Type 0 where

@@ -9,7 +9,7 @@ use Rattle.query.specs.Syntax.{Path, Filter, child, then}
 use Rattle.query.specs.Meaning.{Star, stop, step, reach, holds}
 use Rattle.view.specs.View.{Nearest, parent, beyond}
 use Rattle.view.proofs.Nearest.{nearest-node}
-use Rattle.rewriting.proofs.Formulas.{hidden, up, down}
+use Rattle.axes.proofs.Formulas.{hidden, up, down}
 
 module _ (t : Tree) (o : InOrder t) (Seen : ℕ → Type 0) (dec : (i : ℕ) → Dec (Seen i)) (root : Seen 0)
     (vis : Filter) (right : (i : ℕ) → i < length t → holds t vis i ↔ Seen i) where

@@ -12,8 +12,9 @@ use Rattle.view.proofs.Nearest.{NextSeen, nearest-seen}
 use Rattle.view.proofs.Positions.{position-exists}
 use Rattle.view.proofs.Carried.{view-node, view-position, child-carried, next-carried}
 use Rattle.view.proofs.Order.{view-in-order}
-use Rattle.rewriting.proofs.Formulas.{rewritten, down, up, forwards, backwards}
-use Rattle.faithful.proofs.Induction.{Alike, Grounds}
+use Rattle.axes.proofs.Formulas.{down, up, forwards, backwards}
+use Rattle.rewriting.proofs.Rewriting.{rewritten}
+use Rattle.rewriting.proofs.Induction.{Alike, Grounds}
 
 -- What the four rewritten axes reach.
 pub record Reaches (t : Tree) (Seen : ℕ → Type 0) (vis : Filter) : Type 0 where

@@ -13,9 +13,9 @@ use Rattle.query.specs.Syntax.{Path, Filter, child, next, previous, then, eithe
 use Rattle.query.specs.Meaning.{Star, stop, step, reach, holds}
 use Rattle.view.specs.View.{Nearest, parent, beyond}
 use Rattle.view.proofs.Nearest.{NextSeen, nearest-above, nearest-node, nearest-exists}
-use Rattle.rewriting.proofs.Formulas.{no, hidden, skip, onwards, forwards}
-use Rattle.rewriting.proofs.Beside.{Beside, beside-trans, nearest-sibling, nearest-outside, nearest-behind}
-use Rattle.rewriting.proofs.Beside.{Unseen, unseen-none, unseen-one, unseen-join}
+use Rattle.axes.proofs.Formulas.{no, hidden, skip, onwards, forwards}
+use Rattle.axes.proofs.Beside.{Beside, beside-trans, nearest-sibling, nearest-outside, nearest-behind}
+use Rattle.axes.proofs.Beside.{Unseen, unseen-none, unseen-one, unseen-join}
 
 module _ (t : Tree) (o : InOrder t) (Seen : ℕ → Type 0) (dec : (i : ℕ) → Dec (Seen i)) (root : Seen 0)
     (vis : Filter) (right : (i : ℕ) → i < length t → holds t vis i ↔ Seen i) where

@@ -1,7 +1,6 @@
--- The rewriting of syntax, given a filter that tells who is visible: each axis by its formula, every other path and filter by its parts.
--- Nothing here has to be believed: the theorem of this crate says what a rewritten path reaches.
-use Rattle.query.specs.Syntax.{Path, self, child, parent, next, previous, stay, then, either, star}
-use Rattle.query.specs.Syntax.{Filter, labelled, leads, always, never, not, and, or}
+-- The axes of the view as paths on the tree, given a filter that tells who is visible.
+-- Nothing here has to be believed: the laws of this crate say what each of them reaches.
+use Rattle.query.specs.Syntax.{Path, child, parent, next, previous, stay, then, either, star, Filter, leads, not}
 
 -- stay where the path leads nowhere: a last child has `no next`, a node without children `no child`
 abbrev pub no : Path → Path
@@ -41,24 +40,3 @@ module _ (vis : Filter) where
   -- (([!<]/^ | back/[!v])/H)*/back/V: forwards, turned round
   unfoldable pub backwards : Path
   backwards = then (star (then (either (then (no previous) parent) (then back (no child))) hidden)) (then back shown)
-
-unfoldable mutual
-  pub rewritten : Filter → Path → Path
-  rewritten vis self = self
-  rewritten vis child = down vis
-  rewritten vis parent = up vis
-  rewritten vis next = forwards vis
-  rewritten vis previous = backwards vis
-  rewritten vis (stay f) = stay (rewrittenFilter vis f)
-  rewritten vis (then p q) = then (rewritten vis p) (rewritten vis q)
-  rewritten vis (either p q) = either (rewritten vis p) (rewritten vis q)
-  rewritten vis (star p) = star (rewritten vis p)
-
-  pub rewrittenFilter : Filter → Filter → Filter
-  rewrittenFilter vis (labelled l) = labelled l
-  rewrittenFilter vis (leads p) = leads (rewritten vis p)
-  rewrittenFilter vis always = always
-  rewrittenFilter vis never = never
-  rewrittenFilter vis (not f) = not (rewrittenFilter vis f)
-  rewrittenFilter vis (and f g) = and (rewrittenFilter vis f) (rewrittenFilter vis g)
-  rewrittenFilter vis (or f g) = or (rewrittenFilter vis f) (rewrittenFilter vis g)

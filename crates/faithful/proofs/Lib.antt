@@ -1,4 +1,0 @@
-pub mod Simulation
-pub mod Induction
-pub mod Axes
-pub mod Theorem

@@ -1,1 +1,0 @@
-// The theorem that the rewriting is right: no code.
