@@ -1,7 +1,7 @@
 -- Functions that compute what a path reaches and where a filter holds, and that they agree with the meaning. Assumes nothing.
 use Prim.Native.Nat.{ℕ, _<_}
-use mathlib.Core.Path.{_≡_, sym, subst}
-use mathlib.Core.Logic.{_↔_, _⊎_, ⊎-map, Iff·trans, Iff·rfl}
+use mathlib.Core.Path.{_≡_}
+use mathlib.Core.Logic.{_↔_}
 use mathlib.Core.Bool.{Bool, true, false, _&&_, _||_}
 use mathlib.Core.Bool as bool
 use mathlib.Core.List.{List}
@@ -10,10 +10,10 @@ use lib.Dec.{T, ltb, eqb}
 use Rattle.tree.specs.Tree.{Tree, labelAt, parentAt, Child, Next, InOrder}
 use Rattle.query.specs.Syntax.{Path, self, child, parent, next, previous, stay, then, either, star}
 use Rattle.query.specs.Syntax.{Filter, labelled, leads, always, never, not, and, or}
-use Rattle.query.specs.Meaning.{Star, reach, holds}
+use Rattle.query.specs.Meaning.{reach, holds}
 use Rattle.query.proofs.Inside.{reach-inside}
-use Rattle.query.proofs.Tests.{Decides, passes, less-test, equal-test, and-test, or-test, not-test, same-test, decided}
-use Rattle.query.proofs.Sets.{has, has-inside, single, union, keep, any, some, some-test}
+use Rattle.tree.proofs.Tests.{Decides, passes, less-test, equal-test, and-test, or-test, not-test, same-test, decided}
+use Rattle.query.proofs.Sets.{has, single, union, keep, any, some, some-test}
 use Rattle.query.proofs.Steps.{Steps, from-node, from-node-any, follow, self-steps, follow-steps, keep-steps, then-steps, either-steps}
 use Rattle.query.proofs.Rounds.{grow, star-steps}
 
@@ -58,6 +58,7 @@ unfoldable mutual
   test t (or f g) i = test t f i || test t g i
 
 module _ (t : Tree) where
+  -- the three tests agree with the relations on the tree
   child-test : (i j : ℕ) → Decides (isChild t i j) (Child t i j)
   unfolding isChild
   child-test i j =
@@ -78,13 +79,16 @@ module _ (t : Tree) where
       let k = parentAt t j in
       same-test (and-test (and-test (and-test (less-test i j) (child-test k i)) (child-test k j)) (not-test (between-test k i j))) (
         λ (x, none). record { above = k; left = x .0 .1; right = x .1; order = x .0 .0; between = λ m a b c. none (m, a, b, c) },
-        λ n. let e : parentAt t j ≡ n .above = n .right .parent in (((n .order, rw e (n .left)), rw e (n .right)), λ (m, a, b, c). n .between m a b (rw e at c)),
+        λ n.
+            let e : parentAt t j ≡ n .above = n .right .parent in
+            (((n .order, rw e (n .left)), rw e (n .right)), λ (m, a, b, c). n .between m a b (rw e at c)),
       )
 
 module _ (t : Tree) (o : InOrder t) where
   mutual
     unfolding image reach
 
+    -- the image steps along the path
     image-steps : (p : Path) → Steps (length t) (reach t p) (image t p)
     image-steps self = self-steps (length t)
     image-steps child = follow-steps (length t) (isChild t) (child-test t) (λ i j. reach-inside t o child)
@@ -96,7 +100,7 @@ module _ (t : Tree) (o : InOrder t) where
     image-steps (either p q) = either-steps (length t) (image-steps p) (image-steps q)
     image-steps (star p) = star-steps (length t) (reach t p) (λ s. image t p s) (image-steps p)
 
-    -- a filter's test decides it
+    -- the test decides the filter
     filter-test : (f : Filter) (i : ℕ) → i < length t → Decides (test t f i) (holds t f i)
     filter-test (labelled l) i h = equal-test (labelAt t i) l
     filter-test (leads p) i h = from-node-any (image-steps p) i h
@@ -106,22 +110,24 @@ module _ (t : Tree) (o : InOrder t) where
     filter-test (and f g) i h = and-test (filter-test f i h) (filter-test g i h)
     filter-test (or f g) i h = or-test (filter-test f i h) (filter-test g i h)
 
-  -- an image is a set of the tree's nodes
+  -- an image is a set of nodes
   pub image-length : (p : Path) (s : List Bool) → length s ≡ length t → length (image t p s) ≡ length t
   image-length p = image-steps p .nodes
 
   -- an image is what the path reaches from the set
-  pub image-right : (p : Path) (s : List Bool) → length s ≡ length t → (j : ℕ) → T (has (image t p s) j) ↔ ((i : ℕ) × T (has s i) × reach t p i j)
+  pub image-right : (p : Path) (s : List Bool) → length s ≡ length t → (j : ℕ)
+      → T (has (image t p s) j) ↔ ((i : ℕ) × T (has s i) × reach t p i j)
   image-right p = image-steps p .right
 
   -- the image of a node is what the path reaches from it
   pub image-node : (p : Path) (i : ℕ) → i < length t → (j : ℕ) → Decides (has (image t p (single (length t) i)) j) (reach t p i j)
   image-node p = from-node (image-steps p)
 
-  -- a test is what the filter says
+  -- the test passes where the filter holds
   pub test-right : (f : Filter) (i : ℕ) → i < length t → T (test t f i) ↔ holds t f i
   test-right f i l = filter-test f i l .exact
 
+  -- at a node every filter is decided, and from a node every path
   pub dec-holds : (f : Filter) (i : ℕ) → i < length t → Dec (holds t f i)
   dec-holds f i l = decided (filter-test f i l)
 

@@ -7,12 +7,8 @@ use lib.ListN.{length}
 use Rattle.tree.specs.Tree.{Tree, parentAt, InOrder}
 use Rattle.tree.proofs.Order.{parent-smaller}
 use Rattle.query.specs.Syntax.{Path, self, child, parent, next, previous, stay, then, either, star}
-use Rattle.query.specs.Meaning.{Star, stop, step, reach}
-
--- what every step keeps, a star keeps
-pub star-keeps : {R : ℕ → ℕ → Type 0} (P : ℕ → Type 0) → ((i j : ℕ) → P i → R i j → P j) → {i j : ℕ} → P i → Star R i j → P j
-star-keeps P keeps x stop = x
-star-keeps P keeps x (step r more) = star-keeps P keeps (keeps _ _ x r) more
+use Rattle.query.specs.Meaning.{reach}
+use Rattle.query.proofs.Closure.{star-keeps}
 
 module _ (t : Tree) (o : InOrder t) where
   -- what a path reaches from a node is a node

@@ -1,5 +1,5 @@
+pub mod Closure
 pub mod Inside
-pub mod Tests
 pub mod Sets
 pub mod Steps
 pub mod Rounds

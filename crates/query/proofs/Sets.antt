@@ -8,7 +8,7 @@ use mathlib.Core.Bool.{Bool, true, false, _&&_, _||_}
 use mathlib.Core.List.{List, [], _∷_}
 use lib.ListN.{length, getD}
 use lib.Dec.{T, eqb}
-use Rattle.query.proofs.Tests.{Decides, passes, equal-test, and-test, or-test, same-test}
+use Rattle.tree.proofs.Tests.{Decides, passes, equal-test, and-test, or-test, same-test}
 
 -- i is in s
 abbrev pub has : List Bool → ℕ → Bool
@@ -42,6 +42,7 @@ unfoldable pub single : ℕ → ℕ → List Bool
 unfolding tabulate
 single n i = tabulate n (eqb i)
 
+-- its one member
 pub has-single : {n i : ℕ} (j : ℕ) → i < n → T (has (single n i) j) ↔ (i ≡ j)
 unfolding single
 has-single {n} {i} j l = has-tabulate n (eqb i) j (equal-test i j) (λ e. subst (λ (k : ℕ). k < n) e l)
@@ -72,12 +73,14 @@ any [] = false
 any (true ∷ s) = true
 any (false ∷ s) = any s
 
+-- a member is found where there is one
 any-has : (s : List Bool) → T (any s) → (i : ℕ) × T (has s i)
 unfolding any
 any-has [] x = absurd x
 any-has (true ∷ s) x = (zero, tt)
 any-has (false ∷ s) x = let y = any-has s x in (suc (y .0), y .1)
 
+-- and there is one where one is found
 has-any : (s : List Bool) (i : ℕ) → T (has s i) → T (any s)
 unfolding any
 has-any [] i x = absurd x
@@ -93,7 +96,9 @@ unfoldable pub some : ℕ → (ℕ → Bool) → Bool
 unfolding tabulate any
 some n f = any (tabulate n f)
 
-pub some-test : (n : ℕ) {f : ℕ → Bool} {P : ℕ → Type 0} → ((i : ℕ) → Decides (f i) (P i)) → ((i : ℕ) → P i → i < n) → Decides (some n f) ((i : ℕ) × P i)
+-- tests of a property below n tell whether anything has it
+pub some-test : (n : ℕ) {f : ℕ → Bool} {P : ℕ → Type 0} → ((i : ℕ) → Decides (f i) (P i)) → ((i : ℕ) → P i → i < n)
+    → Decides (some n f) ((i : ℕ) × P i)
 unfolding some
 some-test n {f} {P} test inside = same-test (any-test (tabulate n f)) (λ (i, x). (i, at i .0 x), λ (i, x). (i, at i .1 x))
   where

@@ -5,7 +5,7 @@ use mathlib.Core.Logic.{_↔_, _⊎_, ⊎-map, Iff·rfl, eq-comm}
 use Rattle.tree.specs.Tree.{Tree}
 use Rattle.query.specs.Syntax.{Path, self, child, parent, next, previous, stay, then, either, star}
 use Rattle.query.specs.Meaning.{Star, stop, step, reach, holds}
-use Rattle.query.proofs.Inside.{star-keeps}
+use Rattle.query.proofs.Closure.{star-keeps}
 
 -- S is the relation R turned round
 abbrev pub Turned : (ℕ → ℕ → Type 0) → (ℕ → ℕ → Type 0) → Type 0

@@ -7,7 +7,8 @@ use lib.Dec.{T, eqb, leb, eqb→eq, leb→le}
 use lib.ListN.{length}
 use Rattle.reply.specs.Bytes.{Bytes}
 use Rattle.tree.specs.Tree.{Tree, labelAt, parentAt, InOrder}
-use Rattle.tree.proofs.Deciding.{all, all-at, everyBelow, every-right, isAbove, is-above}
+use Rattle.tree.proofs.Tests.{all, all-at, everyBelow, every-below}
+use Rattle.tree.proofs.Deciding.{isAbove, is-above}
 use Rattle.roll.specs.Roll.{none, nodes, secondByte, ParentRule, NodeRight, RollLength, Roll}
 
 unfoldable pub hasParent : Tree → ℕ → Bool
@@ -47,7 +48,7 @@ is-roll b h =
     let passed = all-at (rollTests b) h in
     record {
       size = record { some = leb→le 1 n (passed 0); size = record { multiple = eqb→eq (n % 4) 0 (passed 1); most = leb→le n 16384 (passed 2) } };
-      node = λ i l. is-node b i (every-right (length (nodes b)) (λ i. all (nodeTests b i)) .0 (passed 3) i l);
+      node = λ i l. is-node b i (every-below (length (nodes b)) (λ i. all (nodeTests b i)) (passed 3) i l);
     }
 
 -- "So the table is in document order"

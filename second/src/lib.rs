@@ -1,0 +1,17 @@
+//! A second program for document 01, written from that document alone.
+//!
+//! It exists to disagree: every call is worked out by plain means (sets of nodes, relations walked node by node, the
+//! view cut out before it is queried), so that a mistake in a cleverer program shows as a difference.
+
+pub mod annotation;
+pub mod calls;
+pub mod meaning;
+pub mod reply;
+pub mod rewrite;
+pub mod roll;
+pub mod table;
+pub mod text;
+pub mod view;
+
+pub use calls::{answer_on_roll, check_roll, curators_answer, cut_view, read_text, rewrite, run_of_record};
+pub use reply::Reply;
