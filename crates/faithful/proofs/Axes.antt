@@ -45,6 +45,7 @@ module _ {t : Tree} (o : InOrder t) {Seen : ℕ → Type 0} (dec : (i : ℕ) →
           (j, w, carried i a j b z w .1 r)
 
   module _ (vis : Filter) (right : (i : ℕ) → i < length t → holds t vis i ↔ Seen i) where
+    -- `down` is child in the view
     child-alike : Alike t v (Stands t Seen) (rewritten vis child) child
     unfolding rewritten reach
     child-alike = axis-alike (λ i a j z r. reached z .0 r .1) (λ i a j b z w.
@@ -54,6 +55,7 @@ module _ {t : Tree} (o : InOrder t) {Seen : ℕ → Type 0} (dec : (i : ℕ) →
         reached : {i a j : ℕ} → Stands t Seen i a → reach t (down vis) i j ↔ ((j < length t) × Seen j × Nearest t Seen j i)
         reached z = down-reaches t o Seen dec root vis right (z .node) (z .position .visible)
 
+    -- `up` is parent in the view
     parent-alike : Alike t v (Stands t Seen) (rewritten vis parent) parent
     unfolding rewritten reach
     parent-alike = axis-alike (λ i a j z r. nearest-seen (reached z .0 r)) (λ i a j b z w.
@@ -62,6 +64,7 @@ module _ {t : Tree} (o : InOrder t) {Seen : ℕ → Type 0} (dec : (i : ℕ) →
         reached : {i a j : ℕ} → Stands t Seen i a → reach t (up vis) i j ↔ Nearest t Seen i j
         reached z = up-reaches t o Seen dec root vis right (z .node)
 
+    -- `forwards` is next sibling in the view
     next-alike : Alike t v (Stands t Seen) (rewritten vis next) next
     unfolding rewritten reach
     next-alike = axis-alike (λ i a j z r. (reached z .0 r) .visible) (λ i a j b z w.
@@ -70,6 +73,7 @@ module _ {t : Tree} (o : InOrder t) {Seen : ℕ → Type 0} (dec : (i : ℕ) →
         reached : {i a j : ℕ} → Stands t Seen i a → reach t (forwards vis) i j ↔ NextSeen t Seen i j
         reached z = forwards-reaches t o Seen dec root vis right (z .node) (z .position .visible)
 
+    -- `backwards` is previous sibling in the view
     previous-alike : Alike t v (Stands t Seen) (rewritten vis previous) previous
     unfolding rewritten reach
     previous-alike = axis-alike (λ i a j z r. reached z .0 r .1) (λ i a j b z w.
