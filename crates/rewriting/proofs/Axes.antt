@@ -5,7 +5,7 @@ use mathlib.Core.Logic.{_↔_, Iff·symm, Iff·trans}
 use lib.ListN.{length}
 use Rattle.tree.specs.Tree.{Tree, InOrder}
 use Rattle.query.specs.Syntax.{Path, Filter, child, parent, next, previous}
-use Rattle.query.specs.Meaning.{reach}
+use Rattle.query.specs.Meaning.{reach, holds}
 use Rattle.query.proofs.Inside.{reach-inside}
 use Rattle.view.specs.View.{Position, Nearest, View}
 use Rattle.view.proofs.Nearest.{NextSeen, nearest-seen}
@@ -14,14 +14,10 @@ use Rattle.view.proofs.Carried.{view-node, view-position, child-carried, next-c
 use Rattle.view.proofs.Order.{view-in-order}
 use Rattle.axes.proofs.Formulas.{down, up, forwards, backwards}
 use Rattle.rewriting.proofs.Rewriting.{rewritten}
+use Rattle.axes.proofs.Updown.{up-reaches, down-reaches}
+use Rattle.axes.proofs.Sideways.{forwards-reaches}
+use Rattle.axes.proofs.Backwards.{backwards-reaches}
 use Rattle.rewriting.proofs.Induction.{Alike, Grounds}
-
--- What the four rewritten axes reach.
-pub record Reaches (t : Tree) (Seen : ℕ → Type 0) (vis : Filter) : Type 0 where
-  pub down-reaches : {i j : ℕ} → i < length t → Seen i → reach t (down vis) i j ↔ ((j < length t) × Seen j × Nearest t Seen j i)
-  pub up-reaches : {i j : ℕ} → i < length t → reach t (up vis) i j ↔ Nearest t Seen i j
-  pub forwards-reaches : {i j : ℕ} → i < length t → Seen i → reach t (forwards vis) i j ↔ NextSeen t Seen i j
-  pub backwards-reaches : {i j : ℕ} → i < length t → Seen i → reach t (backwards vis) i j ↔ (NextSeen t Seen j i × Seen j × (j < length t))
 
 -- a is the view position of the node i.
 pub record Stands (t : Tree) (Seen : ℕ → Type 0) (i a : ℕ) : Type 0 where
@@ -49,7 +45,8 @@ module _ {t : Tree} (o : InOrder t) {Seen : ℕ → Type 0} (dec : (i : ℕ) →
           let w : Stands t Seen j b = record { node = l; position = y } in
           (j, w, carried i a j b z w .1 r)
 
-  module _ (vis : Filter) (reaches : Reaches t Seen vis) where
+  module _ (vis : Filter) (right : (i : ℕ) → i < length t → holds t vis i ↔ Seen i) where
+    -- `down` is child in the view
     child-alike : Alike t v (Stands t Seen) (rewritten vis child) child
     unfolding rewritten reach
     child-alike = axis-alike (λ i a j z r. reached z .0 r .1) (λ i a j b z w.
@@ -57,21 +54,27 @@ module _ {t : Tree} (o : InOrder t) {Seen : ℕ → Type 0} (dec : (i : ℕ) →
         (λ r. carried .1 (reached z .0 r .2), λ c. reached z .1 (w .node, w .position .visible, carried .0 c)))
       where
         reached : {i a j : ℕ} → Stands t Seen i a → reach t (down vis) i j ↔ ((j < length t) × Seen j × Nearest t Seen j i)
-        reached z = reaches .down-reaches (z .node) (z .position .visible)
+        reached z = down-reaches t o Seen dec root vis right (z .node) (z .position .visible)
 
+    -- `up` is parent in the view
     parent-alike : Alike t v (Stands t Seen) (rewritten vis parent) parent
     unfolding rewritten reach
-    parent-alike =
-        axis-alike (λ i a j z r. nearest-seen (reaches .up-reaches (z .node) .0 r)) (λ i a j b z w.
-        Iff·trans (reaches .up-reaches (z .node)) (Iff·symm (child-carried o dec root view (w .position) (z .position) (z .node))))
+    parent-alike = axis-alike (λ i a j z r. nearest-seen (reached z .0 r)) (λ i a j b z w.
+        Iff·trans (reached z) (Iff·symm (child-carried o dec root view (w .position) (z .position) (z .node))))
+      where
+        reached : {i a j : ℕ} → Stands t Seen i a → reach t (up vis) i j ↔ Nearest t Seen i j
+        reached z = up-reaches t o Seen dec root vis right (z .node)
 
+    -- `forwards` is next sibling in the view
     next-alike : Alike t v (Stands t Seen) (rewritten vis next) next
     unfolding rewritten reach
-    next-alike =
-        axis-alike (λ i a j z r. (reaches .forwards-reaches (z .node) (z .position .visible) .0 r) .visible) (λ i a j b z w.
-        Iff·trans (reaches .forwards-reaches (z .node) (z .position .visible))
-        (Iff·symm (next-carried o dec root view (z .position) (z .node) (w .position) (w .node))))
+    next-alike = axis-alike (λ i a j z r. (reached z .0 r) .visible) (λ i a j b z w.
+        Iff·trans (reached z) (Iff·symm (next-carried o dec root view (z .position) (z .node) (w .position) (w .node))))
+      where
+        reached : {i a j : ℕ} → Stands t Seen i a → reach t (forwards vis) i j ↔ NextSeen t Seen i j
+        reached z = forwards-reaches t o Seen dec root vis right (z .node) (z .position .visible)
 
+    -- `backwards` is previous sibling in the view
     previous-alike : Alike t v (Stands t Seen) (rewritten vis previous) previous
     unfolding rewritten reach
     previous-alike = axis-alike (λ i a j z r. reached z .0 r .1) (λ i a j b z w.
@@ -79,7 +82,7 @@ module _ {t : Tree} (o : InOrder t) {Seen : ℕ → Type 0} (dec : (i : ℕ) →
         (λ r. carried .1 (reached z .0 r .0), λ n. reached z .1 (carried .0 n, w .position .visible, w .node)))
       where
         reached : {i a j : ℕ} → Stands t Seen i a → reach t (backwards vis) i j ↔ (NextSeen t Seen j i × Seen j × (j < length t))
-        reached z = reaches .backwards-reaches (z .node) (z .position .visible)
+        reached z = backwards-reaches t o Seen dec root vis right (z .node) (z .position .visible)
 
     -- the grounds of the rewriting, between nodes and their view positions
     pub grounds : Grounds t v (Stands t Seen) vis

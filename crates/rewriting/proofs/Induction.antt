@@ -32,6 +32,7 @@ module _ {t u : Tree} {Tied : ℕ → ℕ → Type 0} (vis : Filter) (grounds : 
   mutual
     unfolding rewritten holds
 
+    -- every rewritten path does on t what the path does on u
     pub paths-alike : (p : Path) → Alike t u Tied (rewritten vis p) p
     paths-alike self = record { forth = follows-self; back = follows-self }
     paths-alike child = grounds .child
@@ -53,6 +54,7 @@ module _ {t u : Tree} {Tied : ℕ → ℕ → Type 0} (vis : Filter) (grounds : 
         let h = paths-alike p in
         record { forth = follows-star (h .forth); back = follows-star (h .back) }
 
+    -- every rewritten filter holds on t where the filter holds on u
     pub filters-agree : (f : Filter) → Agree t u Tied (rewrittenFilter vis f) f
     filters-agree (labelled l) =
         record { forth = record { keep = λ z e. grounds .label z ∙ e }; back = record { keep = λ z e. sym (grounds .label z) ∙ e } }

@@ -21,10 +21,12 @@ abbrev pub turned : (ℕ → ℕ → Type 0) → ℕ → ℕ → Type 0
 turned Tied a i = Tied i a
 
 module _ {t u : Tree} {Tied : ℕ → ℕ → Type 0} where
+  -- both stay where they are
   pub follows-self : Follows t u Tied self self
   unfolding reach
   follows-self = record { move = λ {i} {a} {j} z e. (a, rw e at z, refl) }
 
+  -- both stay, if their filters hold
   pub follows-stay : {f g : Filter} → Implies t u Tied f g → Follows t u Tied (stay f) (stay g)
   unfolding reach
   follows-stay h = record { move = λ {i} {a} {j} z r. (a, rw (r .0) at z, (refl, h .keep z (r .1))) }
@@ -40,6 +42,7 @@ module _ {t u : Tree} {Tied : ℕ → ℕ → Type 0} where
             (b, y, (c, m, n));
       }
 
+  -- each of two ways is followed
   pub follows-either : {p q x y : Path} → Follows t u Tied p x → Follows t u Tied q y → Follows t u Tied (either p q) (either x y)
   unfolding reach
   follows-either {p} {q} {x} {y} f g = record { move = go }
@@ -60,19 +63,22 @@ module _ {t u : Tree} {Tied : ℕ → ℕ → Type 0} where
           let (b, y, n) = go w more in
           (b, y, step m n)
 
+  -- where a path leads somewhere, so does one that follows it
   pub implies-leads : {p x : Path} → Follows t u Tied p x → Implies t u Tied (leads p) (leads x)
   unfolding holds
   implies-leads f = record { keep = λ z r. let (b, w, m) = f .move z (r .1) in (b, m) }
 
-  -- what holds in neither tree: here the two trees change places
+  -- where not f holds, not g does, if g implies f: here the two trees change places
   pub implies-not : {f g : Filter} → Implies u t (turned Tied) g f → Implies t u Tied (not f) (not g)
   unfolding holds
   implies-not h = record { keep = λ z n r. n (h .keep z r) }
 
+  -- part by part
   pub implies-and : {f g x y : Filter} → Implies t u Tied f x → Implies t u Tied g y → Implies t u Tied (and f g) (and x y)
   unfolding holds
   implies-and h k = record { keep = λ z r. (h .keep z (r .0), k .keep z (r .1)) }
 
+  -- whichever of the two holds
   pub implies-or : {f g x y : Filter} → Implies t u Tied f x → Implies t u Tied g y → Implies t u Tied (or f g) (or x y)
   unfolding holds
   implies-or h k = record { keep = λ z r. ⊎-map (h .keep z) (k .keep z) r }

@@ -62,6 +62,7 @@ module _ {Seen : ℕ → Type 0} where
   position-taken (hidden g x) h = let r = position-taken x h in (r .0, le-step (r .1), r .2)
 
   module _ (dec : (i : ℕ) → Dec (Seen i)) where
+    -- there is a count
     pub before-exists : (i : ℕ) → (k : ℕ) × Before Seen i k
     before-exists zero = (0, start)
     before-exists (suc i) = go (dec i) (before-exists i)
