@@ -12,7 +12,7 @@ use Rattle.reply.specs.declared.Reply.{Reply}
 use Rattle.reply.specs.declared.Reply.the-variants.{Count, Refused}
 use Rattle.reply.specs.Reply.{number, Said, count, refused, said}
 use Rattle.reply.specs.Bytes.{Bytes}
-use Rattle.reply.specs.Outcome.{Lowest, InTurn, first, behind, Outcome, done, short, turned-away}
+use Rattle.reply.specs.Outcome.{Lowest, InTurn, first, behind, Outcome, done, short, turned-away, Checked}
 
 -- an input has at most one fault
 abbrev pub OneFault : (ℕ → ℕ → Type 0) → Type 0
@@ -55,6 +55,12 @@ outcome-one wrong one same (short s) (turned-away r f) = absurd (omega arith)
 outcome-one wrong one same (turned-away {n = n} {p = p} r f) (done r′ g d) = absurd (wrong n p f g)
 outcome-one wrong one same (turned-away r f) (short s) = absurd (omega arith)
 outcome-one wrong one same (turned-away {n = n} {p = p} r f) (turned-away {n = m} {p = q} r′ f′) = let (e, g) = one n m p q f f′ in (ap₂ refused e g, refl)
+
+-- a check says one thing
+pub checked-one : {Right : Type 0} {Fault : ℕ → ℕ → Type 0} {size : ℕ} → Wrong Right Fault → OneFault Fault
+    → {s u : Said} → Checked Right Fault size s → Checked Right Fault size u → s ≡ u
+unfolding Checked
+checked-one wrong one x y = outcome-one wrong one (λ c d x y e f. (e .0 ∙ sym (f .0), e .1 ∙ sym (f .1))) x y .0
 
 -- the reason that a number stands for
 reasonOf : ℕ → Reason

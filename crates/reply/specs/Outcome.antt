@@ -1,5 +1,7 @@
 -- How every call comes out: it refuses exactly where a fault is listed, and "a refusal changes no lent byte".
 use Prim.Native.Nat.{ℕ, _≤_, _<_}
+use mathlib.Core.Path.{_≡_}
+use mathlib.Core.List.{[]}
 use lib.ListN.{length}
 use Rattle.reply.specs.Bytes.{Bytes}
 use Rattle.reply.specs.Reply.{Said, count, refused}
@@ -23,3 +25,7 @@ pub data Outcome (room : ℕ) (Right : Type 0) (Fault : ℕ → ℕ → Type 0) 
   -- "1: the output is shorter than the room named", before every other fault
   short : length before < room → Outcome room Right Fault Done before (refused 1 0) before
   turned-away : {n p : ℕ} → room ≤ length before → Fault n p → Outcome room Right Fault Done before (refused n p) before
+
+-- A check by itself: it is lent nothing, and where the input is right it counts its records.
+unfoldable pub Checked : Type 0 → (ℕ → ℕ → Type 0) → ℕ → Said → Type 0
+Checked Right Fault size said = Outcome 0 Right Fault (λ c after. (c ≡ size) × (after ≡ [])) [] said []

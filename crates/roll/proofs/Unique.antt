@@ -1,14 +1,13 @@
 -- A roll has at most one fault, so two replies that fit call 1, and two parts that fit call 7, are equal. Assumes nothing.
 use Prim.Native.Nat.{ℕ, _*_, _<_}
 use native.Mathlib.Omega.{arith}
-use mathlib.Core.Path.{_≡_, refl, ap, _∙_, sym}
-use mathlib.Core.List.{[]}
+use mathlib.Core.Path.{_≡_, refl, ap}
 use lib.ListN.{length}
 use lib.Seq.{slice}
 use Rattle.reply.specs.Reply.{Said}
 use Rattle.reply.specs.Bytes.{Bytes}
 use Rattle.reply.specs.Outcome.{Lowest}
-use Rattle.reply.proofs.Unique.{OneFault, Wrong, lowest-one, outcome-one}
+use Rattle.reply.proofs.Unique.{OneFault, Wrong, lowest-one, checked-one}
 use Rattle.tree.proofs.Runs.{run-ends-unique}
 use Rattle.roll.specs.Roll.{nodes, NodeRight, NodeFault, label, second, parent, Roll, RollFault, bad-length, bad-node}
 use Rattle.roll.specs.Promise.{RollChecked, RunGiven, bad-roll, no-record, run}
@@ -44,7 +43,7 @@ module _ (b : Bytes) where
   -- call 1 says one thing
   pub roll-checked-one : {s u : Said} → RollChecked b s → RollChecked b u → s ≡ u
   unfolding RollChecked
-  roll-checked-one x y = outcome-one roll-wrong roll-one (λ c d x y e f. (e .0 ∙ sym (f .0), e .1 ∙ sym (f .1))) x y .0
+  roll-checked-one x y = checked-one roll-wrong roll-one x y
 
   -- call 7 gives one part
   pub run-given-one : {k : ℕ} {x y : Bytes} → RunGiven b k x → RunGiven b k y → x ≡ y

@@ -1,18 +1,17 @@
 -- What call 1, "check a roll", and call 7, "run of a record", promise.
 use Prim.Native.Nat.{ℕ, _*_, _≤_, _<_}
-use mathlib.Core.Path.{_≡_}
 use mathlib.Core.List.{[]}
 use lib.ListN.{length}
 use lib.Seq.{slice}
 use Rattle.reply.specs.Reply.{Said}
 use Rattle.reply.specs.Bytes.{Bytes}
-use Rattle.reply.specs.Outcome.{Outcome}
+use Rattle.reply.specs.Outcome.{Checked}
 use Rattle.tree.specs.Tree.{RunEnds}
 use Rattle.roll.specs.Roll.{nodes, Roll, RollFault}
 
--- Call 1 "gives the number of nodes". It is lent nothing.
+-- Call 1 "gives the number of nodes".
 unfoldable pub RollChecked : Bytes → Said → Type 0
-RollChecked roll said = Outcome 0 (Roll roll) (RollFault roll) (λ c after. (c ≡ length (nodes roll)) × (after ≡ [])) [] said []
+RollChecked roll said = Checked (Roll roll) (RollFault roll) (length (nodes roll)) said
 
 -- Call 7 "gives back the part of the caller's table that holds a record and all its descendants, its first byte being the record's own.
 -- A bad roll or a record number not in it gives an empty part".
