@@ -7,10 +7,8 @@ use Rattle.reply.specs.Outcome.{done, turned-away, Checked}
 module _ {Right : Type 0} {Fault : ℕ → ℕ → Type 0} {size : ℕ} where
   -- a right input is counted
   pub passes : {c : ℕ} → Right → c ≡ size → Checked Right Fault size (count c)
-  unfolding Checked
   passes right e = done zero-le right (e, refl)
 
   -- a fault is refused
   pub fails : {n p : ℕ} → Fault n p → Checked Right Fault size (refused n p)
-  unfolding Checked
   fails fault = turned-away zero-le fault

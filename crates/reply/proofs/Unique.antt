@@ -59,7 +59,6 @@ outcome-one wrong one same (turned-away {n = n} {p = p} r f) (turned-away {n = m
 -- a check says one thing
 pub checked-one : {Right : Type 0} {Fault : ℕ → ℕ → Type 0} {size : ℕ} → Wrong Right Fault → OneFault Fault
     → {s u : Said} → Checked Right Fault size s → Checked Right Fault size u → s ≡ u
-unfolding Checked
 checked-one wrong one x y = outcome-one wrong one (λ c d x y e f. (e .0 ∙ sym (f .0), e .1 ∙ sym (f .1))) x y .0
 
 -- the reason that a number stands for

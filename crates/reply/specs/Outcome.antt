@@ -27,5 +27,5 @@ pub data Outcome (room : ℕ) (Right : Type 0) (Fault : ℕ → ℕ → Type 0) 
   turned-away : {n p : ℕ} → room ≤ length before → Fault n p → Outcome room Right Fault Done before (refused n p) before
 
 -- A check by itself: it is lent nothing, and where the input is right it counts its records.
-unfoldable pub Checked : Type 0 → (ℕ → ℕ → Type 0) → ℕ → Said → Type 0
+abbrev pub Checked : Type 0 → (ℕ → ℕ → Type 0) → ℕ → Said → Type 0
 Checked Right Fault size said = Outcome 0 Right Fault (λ c after. (c ≡ size) × (after ≡ [])) [] said []
