@@ -1,0 +1,2 @@
+// Checks of query tables and filter tables.
+pub mod kinds;
