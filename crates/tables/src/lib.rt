@@ -1,2 +1,3 @@
-// Checks of query tables and filter tables.
+// Query tables and filter tables: what stands in an entry, and the check of a whole table.
+pub mod entry;
 pub mod kinds;
