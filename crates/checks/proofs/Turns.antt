@@ -1,0 +1,1 @@
+-- Checks that come one behind another. Assumes nothing.
