@@ -28,11 +28,12 @@ module _ (b : Bytes) (i : ℕ) where
   pub fields-none : length b / 6 ≤ i → Fields (entryAt (entries b) i) (record { kind = 0; label = 0; left = 0; right = 0 })
   fields-none l = rw (no-entry b i (omega (arith, entries-length b))) (record { kind = refl; label = refl; left = refl; right = refl })
 
-sort-some : (s : Sort) → 0 < sortNumber s
+-- a sort has a number above 0
+pub sort-some : (s : Sort) → 0 < sortNumber s
 sort-some path = omega arith
 sort-some filter = omega arith
 
--- a sort's number is its own
+-- two sorts with one number are one
 pub sort-one : (s u : Sort) → sortNumber s ≡ sortNumber u → s ≡ u
 sort-one path path e = refl
 sort-one path filter e = absurd (omega arith)

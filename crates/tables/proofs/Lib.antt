@@ -1,2 +1,3 @@
 pub mod KindTable
 pub mod Entries
+pub mod Deciding

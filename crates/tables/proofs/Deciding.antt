@@ -1,0 +1,91 @@
+-- The tests of an entry's fields decide whether the entry is in order. Assumes nothing.
+use Prim.Native.Nat.{ℕ, _≤_, _<_}
+use native.Mathlib.Omega.{arith}
+use mathlib.Core.Path.{_≡_, refl, sym, ap, _∙_, subst, subst₂}
+use mathlib.Core.Logic.{_↔_}
+use mathlib.Core.Bool.{Bool, true, false, not, _&&_}
+use mathlib.Core.Option.{Option, none, some}
+use lib.Dec.{leb, ltb, eqb, leb→le, le→leb}
+use Rattle.tree.specs.Tree.{Label}
+use Rattle.tree.proofs.Tests.{Decides, less-test, equal-test, and-test, not-test, same-test}
+use Rattle.query.specs.Kind.{Operand, unused, of, Row, rowOf}
+use Rattle.query.specs.Table.{Entries, entryAt, rowAt, LabelField, OperandField, EntryRight}
+use Rattle.tables.specs.declared.entry.Entry.{Entry}
+use Rattle.tables.specs.Fields.{Fields}
+use Rattle.tables.specs.Shape.{operandNumber, sortOf, leftOf, rightOf, labelOf}
+use Rattle.tables.proofs.Entries.{sort-some, sort-at}
+
+pub at-most-test : (m n : ℕ) → Decides (leb m n) (m ≤ n)
+at-most-test m n = record { exact = (leb→le m n, le→leb m n) }
+
+-- a label that is used is one of 1 to 64
+pub label-used : (l : ℕ) → Decides (leb 1 l && leb l 64) (LabelField true l)
+unfolding LabelField
+label-used l =
+    same-test (and-test (at-most-test 1 l) (at-most-test l 64)) (λ p. record { least = p .0; most = p .1 }, λ (h : Label l). (h .least, h .most))
+
+-- a label that is not used is 0
+pub label-unused : (l : ℕ) → Decides (eqb l 0) (LabelField false l)
+unfolding LabelField
+label-unused l = equal-test l 0
+
+module _ (es : Entries) (i : ℕ) where
+  -- an operand that is not used is 0
+  pub operand-unused : (o : Operand) (x sort : ℕ) → operandNumber o ≡ sort → sort ≡ 0 → Decides (eqb x 0) (OperandField es i o x)
+  unfolding OperandField
+  operand-unused unused x sort e z = equal-test x 0
+  operand-unused (of s) x sort e z = absurd (omega (arith, sort-some s))
+
+  -- an operand that is used is the number of an earlier entry of its sort
+  pub operand-used : (o : Operand) (x sort : ℕ) → operandNumber o ≡ sort → ¬ (sort ≡ 0) → Decides (ltb x i && eqb (sortOf (rowAt es x)) sort) (OperandField es i o x)
+  unfolding OperandField
+  operand-used unused x sort e z = absurd (z (sym e))
+  operand-used (of s) x sort e z = rw (← e) (and-test (less-test x i) (same-test (equal-test (sortOf (rowAt es x)) (operandNumber (of s))) (sort-at es x s)))
+
+  -- an operand's field is right, whichever operand has the number
+  abbrev pub RightOperand : Bool → ℕ → ℕ → Type 0
+  RightOperand b number x = (o : Operand) → operandNumber o ≡ number → Decides b (OperandField es i o x)
+
+  -- an entry is in order where its kind is listed and its fields are right
+  by-row : {a b c d : Bool} (row : Option Row) → rowAt es i ≡ row → Decides a (¬ (sortOf row ≡ 0)) → Decides b (LabelField (labelOf row) (entryAt es i .label))
+      → RightOperand c (leftOf row) (entryAt es i .left) → RightOperand d (rightOf row) (entryAt es i .right) → Decides (((a && b) && c) && d) (EntryRight es i)
+  by-row none e listed label left right =
+      same-test (and-test (and-test (and-test listed label) (left unused refl)) (right unused refl)) (λ p. absurd (p .0 .0 .0 refl), λ (h : EntryRight es i). absurd (unlisted h))
+    where
+      unlisted : EntryRight es i → ⊥
+      unlisted h = let z : _≡_ {A = ℕ} 0 1 = cc (e, h .listed) in omega arith
+  by-row (some row) e listed label left right =
+      same-test (and-test (and-test (and-test listed label) (left (row .left) refl)) (right (row .right) refl))
+      (λ p. record { row = row; listed = e; label = p .0 .0 .1; left = p .0 .1; right = p .1 }, back)
+    where
+      back : EntryRight es i
+          → (((¬ (sortOf (some row) ≡ 0)) × LabelField (row .label) (entryAt es i .label)) × OperandField es i (row .left) (entryAt es i .left))
+          × OperandField es i (row .right) (entryAt es i .right)
+      back h =
+          let same : h .row ≡ row = cc (e, h .listed) in (
+            (
+              (λ z. omega (arith, sort-some (row .sort)), subst (λ (r : Row). LabelField (r .label) (entryAt es i .label)) same (h .label)),
+              subst (λ (r : Row). OperandField es i (r .left) (entryAt es i .left)) same (h .left),
+            ),
+            subst (λ (r : Row). OperandField es i (r .right) (entryAt es i .right)) same (h .right),
+          )
+
+  -- the tests of what was read of an entry decide whether it is in order
+  module _ (read : Entry) (fields : Fields (entryAt es i) read) where
+    same-row : rowOf (read .kind) ≡ rowAt es i
+    unfolding rowAt
+    same-row = ap rowOf (fields .kind)
+
+    operand-read : {e : Bool} {number x y : ℕ} (of-row : Option Row → ℕ) → number ≡ of-row (rowOf (read .kind)) → x ≡ y → RightOperand e number x → RightOperand e (of-row (rowAt es i)) y
+    operand-read {e} of-row n xy test o m = subst (λ (z : ℕ). Decides e (OperandField es i o z)) xy (test o (m ∙ sym (n ∙ ap of-row same-row)))
+
+    pub entry-test : {sort left right : ℕ} {used b c d : Bool} → sort ≡ sortOf (rowOf (read .kind)) → used ≡ labelOf (rowOf (read .kind)) → Decides b (LabelField used (read .label))
+        → left ≡ leftOf (rowOf (read .kind)) → RightOperand c left (read .left)
+        → right ≡ rightOf (rowOf (read .kind)) → RightOperand d right (read .right)
+        → Decides (((not (eqb sort 0) && b) && c) && d) (EntryRight es i)
+    entry-test {sort} {b = b} s u label l left-test r right-test =
+        by-row (rowAt es i) refl
+        (subst (λ (n : ℕ). Decides (not (eqb sort 0)) (¬ (n ≡ 0))) (s ∙ ap sortOf same-row) (not-test (equal-test sort 0)))
+        (subst₂ (λ (v : Bool) (n : ℕ). Decides b (LabelField v n)) (u ∙ ap labelOf same-row) (fields .label) label)
+        (operand-read leftOf l (fields .left) left-test)
+        (operand-read rightOf r (fields .right) right-test)
