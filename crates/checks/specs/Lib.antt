@@ -1,2 +1,3 @@
-pub mod Ready
 pub mod Fields
+pub mod Checks
+pub mod Ready

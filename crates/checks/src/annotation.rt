@@ -1,7 +1,6 @@
 // "Annotation record, 6 bytes: parent label, child label, number of a filter entry (two bytes), two zero bytes."
 // Its fields stand where those of a query entry do, and are read there.
 use tables::entry;
-
 ghost use mathlib.Core.Path.{_≡_};
 ghost use lib.ListN.{length};
 ghost use Rattle.view.specs.Annotation.{records, recordAt};

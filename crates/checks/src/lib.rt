@@ -2,4 +2,4 @@
 pub mod annotation;
 mod check;
 
-//pub use check::check_annotation;
+pub use check::check_annotation;
