@@ -1,3 +1,5 @@
 pub mod KindTable
 pub mod Entries
 pub mod Deciding
+pub mod Heights
+pub mod Walk

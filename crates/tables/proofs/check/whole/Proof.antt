@@ -1,0 +1,16 @@
+-- `tables::check::whole` meets its contract. Assumes nothing.
+use Rattle.tables.proofs.Deciding.{whole-test}
+use borrow.Author.Needs.{needs}
+use Rattle.tables.proofs.check.whole.Statement.{statement}
+use Rattle.tables.proofs.check.whole.Tie as tie
+use Rattle.tables.proofs.check.whole.Reads as reads
+use Rattle.tables.proofs.check.whole.Lts as lts
+
+mul-result : tie.Need-mul-result
+mul-result c = search needs
+
+returns : tie.Need-returns
+returns c = whole-test (c .args .entries) (c .args .table .now)
+
+pub whole-spec : {M : Type 1} → statement M
+whole-spec = tie.close (tie.spec mul-result returns)
