@@ -1,2 +1,5 @@
 pub mod Deciding
 pub mod Unique
+pub mod Records
+pub mod Climbing
+pub mod Checking
