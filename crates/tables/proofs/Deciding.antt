@@ -5,24 +5,18 @@ use mathlib.Core.Path.{_≡_, refl, sym, ap, _∙_, subst, subst₂}
 use mathlib.Core.Logic.{_↔_}
 use mathlib.Core.Bool.{Bool, true, false, not, _&&_}
 use mathlib.Core.Option.{Option, none, some}
-use lib.Dec.{T, leb, ltb, eqb, leb→le, le→leb}
+use lib.Dec.{leb, ltb, eqb, leb→le, le→leb}
 use lib.ListN.{length}
 use Rattle.reply.specs.Bytes.{Bytes, Whole}
 use Rattle.tree.specs.Tree.{Label}
 use Rattle.tree.proofs.Tests.{Decides, less-test, equal-test, and-test, not-test, same-test}
 use Rattle.query.specs.Kind.{Operand, unused, of, Row, rowOf}
 use Rattle.query.specs.Table.{Entries, entryAt, rowAt, LabelField, OperandField, EntryRight}
+use Rattle.query.specs.Fault.{Limits, QueryLength}
 use Rattle.tables.specs.declared.entry.Entry.{Entry}
 use Rattle.tables.specs.Fields.{Fields}
 use Rattle.tables.specs.Shape.{operandNumber, OfOperand, sortOf, leftOf, rightOf, labelOf}
 use Rattle.tables.proofs.Entries.{row-read, operand-read, sort-some, sort-at}
-
--- what a test that came out one way says
-pub passed : {b : Bool} {A : Type 0} → Decides b A → b ≡ true → A
-passed test e = test .exact .0 (subst T (sym e) tt)
-
-pub failed : {b : Bool} {A : Type 0} → Decides b A → b ≡ false → ¬ A
-failed test e a = subst T e (test .exact .1 a)
 
 pub at-most-test : (m n : ℕ) → Decides (leb m n) (m ≤ n)
 at-most-test m n = record { exact = (leb→le m n, le→leb m n) }
@@ -32,6 +26,11 @@ pub whole-test : (limit : ℕ) (b : Bytes) → Decides (eqb (length b % 6) 0 && 
 whole-test limit b =
     same-test (and-test (equal-test (length b % 6) 0) (at-most-test (length b) (6 * limit)))
     (λ p. record { multiple = p .0; most = p .1 }, λ (h : Whole 6 limit b). (h .multiple, h .most))
+
+-- the length of a query table: some entries, whole, within the limit
+pub length-test : {w : Bool} (limit : Limits) (b : Bytes) → Decides w (Whole 6 (limit .entries) b) → Decides (ltb 0 (length b) && w) (QueryLength limit b)
+length-test limit b test =
+    same-test (and-test (less-test 0 (length b)) test) (λ p. record { some = p .0; size = p .1 }, λ (h : QueryLength limit b). (h .some, h .size))
 
 -- a label that is used is one of 1 to 64
 pub label-used : (l : ℕ) → Decides (leb 1 l && leb l 64) (LabelField true l)

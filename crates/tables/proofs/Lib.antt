@@ -3,3 +3,4 @@ pub mod Entries
 pub mod Deciding
 pub mod Heights
 pub mod Walk
+pub mod Outcomes

@@ -61,7 +61,8 @@ pub fn check_query(table: &[u8], entries: usize, height: usize) -> Reply
     requires { ⌜ entries ≤ 1024 ⌝ }
     ensures { λ r. ⌜ QueryChecked (record { entries = entries; height = height }) (now (table .entry)) (said r) ⌝ }
 {
-    if (table.len() == 0) | !whole(table, entries) {
+    let fits = (0 < table.len()) & whole(table, entries);
+    if !fits {
         return Reply::Refused(Refusal {
             reason: Reason::QueryTable,
             place: 0,

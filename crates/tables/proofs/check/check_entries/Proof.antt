@@ -4,18 +4,11 @@ use mathlib.Core.Path.{_≡_, refl}
 use lib.ListN.{length, length-set}
 use native.Mathlib.Omega.{arith}
 use borrow.Author.Needs.{needs}
-use borrow.Author.Tests.{not-false}
-use Rattle.tree.proofs.Tests.{not-test}
+use Rattle.tree.proofs.Tests.{test-passed, test-failed}
 use Rattle.query.specs.Table.{entries}
-use Rattle.tables.proofs.Deciding.{passed}
 use Rattle.tables.proofs.Walk.{Walked, walk-starts, walk-on, walk-ends, walk-malformed, walk-high}
 use Rattle.tables.proofs.check.check_entries.Statement.{statement}
 use Rattle.tables.proofs.check.check_entries.Tie as tie
-use Rattle.tables.proofs.check.check_entries.Reads as reads
-use Rattle.tables.proofs.check.check_entries.Lts as lts
-use Rattle.tables.proofs.entry.count.Reads as count-reads
-use Rattle.tables.proofs.height.height_below.Reads as height-below-reads
-use Rattle.tables.proofs.order.entry_right.Reads as entry-right-reads
 
 abbrev Inv-loop : tie.InvT-loop
 Inv-loop table height n heights₀ i₀ heights i = (i ≤ n) × (n ≡ length (entries table)) × (length heights ≡ 1024) × Walked (entries table) height heights i
@@ -35,7 +28,7 @@ entry-right-requires c κs = search needs
 returns : tie.Need-returns Inv-loop μ-loop
 returns c limit same =
     let loop = c .before .before .before .loop in
-    walk-malformed _ (loop .inv .3) limit same (omega arith) (passed (not-test (c .before .entry-right .ensures)) (c .if1 .taken))
+    walk-malformed _ (loop .inv .3) limit same (omega arith) (test-failed (c .before .entry-right .result) (c .before .entry-right .ensures .exact) (c .if1 .taken))
 
 slice-aggregate-height-below : tie.Need-slice-aggregate-height-below Inv-loop μ-loop
 slice-aggregate-height-below c = search needs
@@ -46,7 +39,7 @@ height-below-requires c κs = search needs
 returns-2 : tie.Need-returns-2 Inv-loop μ-loop
 returns-2 c limit same =
     let loop = c .before .before .before .before .before .before .loop in
-    walk-high _ (loop .inv .3) limit same (omega arith) (passed (c .before .before .before .before .entry-right .ensures) (not-false _ (c .before .before .before .if1 .left))) (c .before .height-below .ensures) (c .if2 .taken)
+    walk-high _ (loop .inv .3) limit same (omega arith) (test-passed (c .before .before .before .before .entry-right .result) (c .before .before .before .before .entry-right .ensures .exact) (c .before .before .before .if1 .left)) (c .before .height-below .ensures) (c .if2 .taken)
 
 add-heights : tie.Need-add-heights Inv-loop μ-loop
 add-heights c = search needs
@@ -69,7 +62,7 @@ loop-again c =
       omega arith,
       loop .inv .1,
       simp length-set (loop .inv .2),
-      walk-on (loop .inv .3) (omega arith) (passed (c .before .before .before .before .entry-right .ensures) (not-false _ (c .before .before .before .if1 .left))) (c .before .height-below .ensures) (c .if2 .left) (omega arith),
+      walk-on (loop .inv .3) (omega arith) (test-passed (c .before .before .before .before .entry-right .result) (c .before .before .before .before .entry-right .ensures .exact) (c .before .before .before .if1 .left)) (c .before .height-below .ensures) (c .if2 .left) (omega arith),
     )
 
 returns-3 : tie.Need-returns-3 Inv-loop μ-loop

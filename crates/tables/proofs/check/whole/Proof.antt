@@ -3,8 +3,6 @@ use Rattle.tables.proofs.Deciding.{whole-test}
 use borrow.Author.Needs.{needs}
 use Rattle.tables.proofs.check.whole.Statement.{statement}
 use Rattle.tables.proofs.check.whole.Tie as tie
-use Rattle.tables.proofs.check.whole.Reads as reads
-use Rattle.tables.proofs.check.whole.Lts as lts
 
 mul-result : tie.Need-mul-result
 mul-result c = search needs

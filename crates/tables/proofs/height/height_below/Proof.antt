@@ -5,13 +5,6 @@ use Rattle.tables.proofs.Heights.{height-read}
 use borrow.Author.Needs.{needs}
 use Rattle.tables.proofs.height.height_below.Statement.{statement}
 use Rattle.tables.proofs.height.height_below.Tie as tie
-use Rattle.tables.proofs.height.height_below.Reads as reads
-use Rattle.tables.proofs.height.height_below.Lts as lts
-use Rattle.tables.proofs.entry.entry_at.Reads as entry-at-reads
-use Rattle.tables.proofs.height.higher.Reads as higher-reads
-use Rattle.tables.proofs.height.operand_height.Reads as operand-height-reads
-use Rattle.tables.proofs.kinds.left_of.Reads as left-of-reads
-use Rattle.tables.proofs.kinds.right_of.Reads as right-of-reads
 
 entry-at-requires : tie.Need-entry-at-requires
 entry-at-requires c κs = search needs

@@ -5,8 +5,6 @@ use Rattle.tables.proofs.Heights.{height-unused, height-used}
 use borrow.Author.Needs.{needs}
 use Rattle.tables.proofs.height.operand_height.Statement.{statement}
 use Rattle.tables.proofs.height.operand_height.Tie as tie
-use Rattle.tables.proofs.height.operand_height.Reads as reads
-use Rattle.tables.proofs.height.operand_height.Lts as lts
 
 returns : tie.Need-returns
 returns c o e = height-unused (c .before .args .heights .now) o (c .before .args .number) (c .before .args .sort) e (c .if1 .taken)
