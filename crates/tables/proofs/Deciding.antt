@@ -1,22 +1,36 @@
 -- The tests of an entry's fields decide whether the entry is in order. Assumes nothing.
-use Prim.Native.Nat.{ℕ, _≤_, _<_}
+use Prim.Native.Nat.{ℕ, _*_, _%_, _≤_, _<_}
 use native.Mathlib.Omega.{arith}
 use mathlib.Core.Path.{_≡_, refl, sym, ap, _∙_, subst, subst₂}
 use mathlib.Core.Logic.{_↔_}
 use mathlib.Core.Bool.{Bool, true, false, not, _&&_}
 use mathlib.Core.Option.{Option, none, some}
 use lib.Dec.{leb, ltb, eqb, leb→le, le→leb}
+use lib.ListN.{length}
+use Rattle.reply.specs.Bytes.{Bytes, Whole}
 use Rattle.tree.specs.Tree.{Label}
 use Rattle.tree.proofs.Tests.{Decides, less-test, equal-test, and-test, not-test, same-test}
 use Rattle.query.specs.Kind.{Operand, unused, of, Row, rowOf}
 use Rattle.query.specs.Table.{Entries, entryAt, rowAt, LabelField, OperandField, EntryRight}
+use Rattle.query.specs.Fault.{Limits, QueryLength}
 use Rattle.tables.specs.declared.entry.Entry.{Entry}
 use Rattle.tables.specs.Fields.{Fields}
-use Rattle.tables.specs.Shape.{operandNumber, sortOf, leftOf, rightOf, labelOf}
-use Rattle.tables.proofs.Entries.{sort-some, sort-at}
+use Rattle.tables.specs.Shape.{operandNumber, OfOperand, sortOf, leftOf, rightOf, labelOf}
+use Rattle.tables.proofs.Entries.{row-read, operand-read, sort-some, sort-at}
 
 pub at-most-test : (m n : ℕ) → Decides (leb m n) (m ≤ n)
 at-most-test m n = record { exact = (leb→le m n, le→leb m n) }
+
+-- whole records within a limit, by the length
+pub whole-test : (limit : ℕ) (b : Bytes) → Decides (eqb (length b % 6) 0 && leb (length b) (6 * limit)) (Whole 6 limit b)
+whole-test limit b =
+    same-test (and-test (equal-test (length b % 6) 0) (at-most-test (length b) (6 * limit)))
+    (λ p. record { multiple = p .0; most = p .1 }, λ (h : Whole 6 limit b). (h .multiple, h .most))
+
+-- the length of a query table: some entries, whole, within the limit
+pub length-test : {w : Bool} (limit : Limits) (b : Bytes) → Decides w (Whole 6 (limit .entries) b) → Decides (ltb 0 (length b) && w) (QueryLength limit b)
+length-test limit b test =
+    same-test (and-test (less-test 0 (length b)) test) (λ p. record { some = p .0; size = p .1 }, λ (h : QueryLength limit b). (h .some, h .size))
 
 -- a label that is used is one of 1 to 64
 pub label-used : (l : ℕ) → Decides (leb 1 l && leb l 64) (LabelField true l)
@@ -42,13 +56,11 @@ module _ (es : Entries) (i : ℕ) where
   operand-used unused x sort e z = absurd (z (sym e))
   operand-used (of s) x sort e z = rw (← e) (and-test (less-test x i) (same-test (equal-test (sortOf (rowAt es x)) (operandNumber (of s))) (sort-at es x s)))
 
-  -- an operand's field is right, whichever operand has the number
-  abbrev pub RightOperand : Bool → ℕ → ℕ → Type 0
-  RightOperand b number x = (o : Operand) → operandNumber o ≡ number → Decides b (OperandField es i o x)
-
   -- an entry is in order where its kind is listed and its fields are right
   by-row : {a b c d : Bool} (row : Option Row) → rowAt es i ≡ row → Decides a (¬ (sortOf row ≡ 0)) → Decides b (LabelField (labelOf row) (entryAt es i .label))
-      → RightOperand c (leftOf row) (entryAt es i .left) → RightOperand d (rightOf row) (entryAt es i .right) → Decides (((a && b) && c) && d) (EntryRight es i)
+      → OfOperand (λ o. Decides c (OperandField es i o (entryAt es i .left))) (leftOf row)
+      → OfOperand (λ o. Decides d (OperandField es i o (entryAt es i .right))) (rightOf row)
+      → Decides (((a && b) && c) && d) (EntryRight es i)
   by-row none e listed label left right =
       same-test (and-test (and-test (and-test listed label) (left unused refl)) (right unused refl)) (λ p. absurd (p .0 .0 .0 refl), λ (h : EntryRight es i). absurd (unlisted h))
     where
@@ -71,21 +83,19 @@ module _ (es : Entries) (i : ℕ) where
           )
 
   -- the tests of what was read of an entry decide whether it is in order
-  module _ (read : Entry) (fields : Fields (entryAt es i) read) where
-    same-row : rowOf (read .kind) ≡ rowAt es i
-    unfolding rowAt
-    same-row = ap rowOf (fields .kind)
-
-    operand-read : {e : Bool} {number x y : ℕ} (of-row : Option Row → ℕ) → number ≡ of-row (rowOf (read .kind)) → x ≡ y → RightOperand e number x → RightOperand e (of-row (rowAt es i)) y
-    operand-read {e} of-row n xy test o m = subst (λ (z : ℕ). Decides e (OperandField es i o z)) xy (test o (m ∙ sym (n ∙ ap of-row same-row)))
-
-    pub entry-test : {sort left right : ℕ} {used b c d : Bool} → sort ≡ sortOf (rowOf (read .kind)) → used ≡ labelOf (rowOf (read .kind)) → Decides b (LabelField used (read .label))
-        → left ≡ leftOf (rowOf (read .kind)) → RightOperand c left (read .left)
-        → right ≡ rightOf (rowOf (read .kind)) → RightOperand d right (read .right)
-        → Decides (((not (eqb sort 0) && b) && c) && d) (EntryRight es i)
-    entry-test {sort} {b = b} s u label l left-test r right-test =
-        by-row (rowAt es i) refl
-        (subst (λ (n : ℕ). Decides (not (eqb sort 0)) (¬ (n ≡ 0))) (s ∙ ap sortOf same-row) (not-test (equal-test sort 0)))
-        (subst₂ (λ (v : Bool) (n : ℕ). Decides b (LabelField v n)) (u ∙ ap labelOf same-row) (fields .label) label)
-        (operand-read leftOf l (fields .left) left-test)
-        (operand-read rightOf r (fields .right) right-test)
+  pub entry-test : {sort left right : ℕ} {used b c d : Bool} (read : Entry) → Fields (entryAt es i) read
+      → sort ≡ sortOf (rowOf (read .kind))
+      → used ≡ labelOf (rowOf (read .kind))
+      → Decides b (LabelField used (read .label))
+      → left ≡ leftOf (rowOf (read .kind))
+      → OfOperand (λ o. Decides c (OperandField es i o (read .left))) left
+      → right ≡ rightOf (rowOf (read .kind))
+      → OfOperand (λ o. Decides d (OperandField es i o (read .right))) right
+      → Decides (((not (eqb sort 0) && b) && c) && d) (EntryRight es i)
+  unfolding rowAt
+  entry-test {sort} {b = b} {c = c} {d = d} read fields s u label l left r right =
+      by-row (rowAt es i) refl
+      (subst (λ (n : ℕ). Decides (not (eqb sort 0)) (¬ (n ≡ 0))) (s ∙ ap sortOf (row-read fields)) (not-test (equal-test sort 0)))
+      (subst₂ (λ (v : Bool) (n : ℕ). Decides b (LabelField v n)) (u ∙ ap labelOf (row-read fields)) (fields .label) label)
+      (operand-read fields (λ o x. Decides c (OperandField es i o x)) leftOf l (fields .left) left)
+      (operand-read fields (λ o x. Decides d (OperandField es i o x)) rightOf r (fields .right) right)

@@ -1,9 +1,7 @@
 // Whether an entry is in order.
-ghost use mathlib.Core.Path.{_≡_};
 ghost use Rattle.tree.proofs.Tests.{Decides};
-ghost use Rattle.query.specs.Kind.{Operand};
 ghost use Rattle.query.specs.Table.{entries, LabelField, OperandField, EntryRight};
-ghost use Rattle.tables.specs.Shape.{operandNumber};
+ghost use Rattle.tables.specs.Shape.{OfOperand};
 use crate::entry::entry_at;
 use crate::entry::sort_at;
 use crate::kinds::NONE;
@@ -25,7 +23,7 @@ fn label_right(used: bool, label: usize) -> bool
 
 // "Operands are numbers of earlier entries", and "unused fields are zero".
 fn operand_right(table: &[u8], i: usize, sort: usize, number: usize) -> bool
-    ensures { λ r. ⌜ ((o : Operand) → operandNumber o ≡ sort → Decides r (OperandField (entries (now (table .entry))) i o number)) ⌝ }
+    ensures { λ r. ⌜ OfOperand (λ o. Decides r (OperandField (entries (now (table .entry))) i o number)) sort ⌝ }
 {
     if sort == NONE {
         number == 0
