@@ -1,29 +1,22 @@
 -- Annotation records: their fields stand where those of a query entry do, and which tests decide whether a record is right. Assumes nothing.
-use Prim.Native.Nat.{ℕ, zero, suc, _-_, _%_, _≤_, _<_}
+use Prim.Native.Nat.{ℕ, zero, suc, _-_, _≤_, _<_}
 use native.Mathlib.Omega.{arith}
 use mathlib.Core.Path.{_≡_, refl, sym, ap, _∙_, subst}
 use mathlib.Core.Bool.{Bool, _&&_, _||_}
 use mathlib.Core.List.{[], _∷_, map}
 use mathlib.Core.Option.{none, some}
-use lib.Dec.{eqb, leb, ltb}
+use lib.Dec.{eqb, ltb}
 use lib.ListN.{length, getD, length-map, List·getD-map, List·getD-eq-default}
-use Rattle.reply.specs.Bytes.{Bytes, Whole}
+use Rattle.reply.specs.Bytes.{Bytes}
 use Rattle.tree.specs.Tree.{Label}
 use Rattle.tree.proofs.Tests.{Decides, less-test, equal-test, and-test, or-test, same-test}
 use Rattle.query.specs.Kind.{Sort, filter, kinds, find}
 use Rattle.query.specs.Table.{Entry, Entries, entries, entryAt, rowAt, HasSort}
 use Rattle.tables.specs.Shape.{sortOf}
 use Rattle.tables.proofs.Entries.{sort-at}
-use Rattle.tables.proofs.Deciding.{at-most-test}
 use Rattle.view.specs.Annotation.{AnnotationRecord, records, recordAt, RecordForm, Ascends, AboveLast}
 use Rattle.checks.specs.declared.annotation.Record.{Record}
 use Rattle.checks.specs.Fields.{Fields}
-
--- whole records of six bytes: "length not a multiple of 6, or above 192"
-pub length-test : (b : Bytes) → Decides (eqb (length b % 6) 0 && leb (length b) 192) (Whole 6 32 b)
-length-test b =
-    same-test (and-test (equal-test (length b % 6) 0) (at-most-test (length b) 192))
-    (λ p. record { multiple = p .0; most = p .1 }, λ (w : Whole 6 32 b). (w .multiple, w .most))
 
 -- the record whose six bytes are the entry's
 abbrev recordOf : Entry → AnnotationRecord

@@ -4,6 +4,7 @@ use crate::annotation::record_at;
 use reply::Reason;
 use reply::Reply;
 use reply::refuse;
+use tables::check::whole;
 use tables::entry::sort_at;
 use tables::kinds::FILTER;
 use tree::is_label;
@@ -12,18 +13,12 @@ ghost use Prim.Native.Nat.{ℕ, _<_};
 ghost use lib.Dec.{T};
 ghost use lib.ListN.{length};
 ghost use Rattle.reply.specs.Reply.{said};
-ghost use Rattle.reply.specs.Bytes.{Whole};
 ghost use Rattle.query.specs.Table.{entries};
 ghost use Rattle.view.specs.Annotation.{records, recordAt, RecordForm, AboveLast, RecordRight};
 ghost use Rattle.checks.specs.Checks.{RecordChecked, AnnotationChecked};
 
-// Whether the annotation is whole records, and not too many.
-fn length_fits(annotation: &[u8]) -> bool
-    ensures { λ r. ⌜ T r ↔ Whole 6 32 (now (annotation .entry)) ⌝ }
-{
-    let n = annotation.len();
-    (n % 6 == 0) & (n <= 192)
-}
+// "annotation 0 to 32"
+const MOST_RECORDS: usize = 32;
 
 // Whether record i has two labels, ends in zero bytes and names a filter entry.
 fn form_fits(annotation: &[u8], filters: &[u8], i: usize) -> bool
@@ -65,7 +60,7 @@ fn check_record(annotation: &[u8], filters: &[u8], i: usize) -> Reply
 pub fn check_annotation(annotation: &[u8], filters: &[u8]) -> Reply
     ensures { λ r. ⌜ AnnotationChecked (now (annotation .entry)) (now (filters .entry)) (said r) ⌝ }
 {
-    if !length_fits(annotation) {
+    if !whole(annotation, MOST_RECORDS) {
         return refuse(Reason::AnnotationLength, 0);
     }
     let n = count(annotation);

@@ -35,6 +35,13 @@ module _ {Right : Type 0} {Fault : ℕ → ℕ → Type 0} {size : ℕ} where
       → ((n p : ℕ) → Fault n p → Listed n p) → r ≡ Refused x → Checked Right Fault size (said r) → Checked Above Listed most (said r)
   passed-up listed e h = rw e (turned-away zero-le (listed _ _ (faulted (rw e at h))))
 
+  -- a check of one thing is a check of another that is right where it is right and has its faults
+  pub checked-as : {Whole : Type 0} {Listed : ℕ → ℕ → Type 0} {s : Said}
+      → (Right → Whole) → ((n p : ℕ) → Fault n p → Listed n p) → Checked Right Fault size s → Checked Whole Listed size s
+  checked-as whole listed (done room right made) = done room (whole right) made
+  checked-as whole listed (short less) = absurd (omega arith)
+  checked-as whole listed (turned-away room fault) = turned-away room (listed _ _ fault)
+
 -- records that are checked one by one: a fault of record i is the lowest, where the records before it are right
 pub lowest-refused : {Right : ℕ → Type 0} {Fault : ℕ → ℕ → Type 0} {size i n : ℕ} {s : Said}
     → i < size → ((k : ℕ) → k < i → Right k) → Fault n i → s ≡ refused n i → Checked (Right i) (Lowest Right Fault size) 1 s

@@ -19,8 +19,8 @@ Inv-loop annotation filters n i₀ i = (i ≤ n) × ((k : ℕ) → k < i → Rec
 abbrev μ-loop : tie.MeasureT-loop
 μ-loop annotation filters n i₀ i = n - i
 
-length-fits-requires : tie.Need-length-fits-requires Inv-loop μ-loop
-length-fits-requires c κs = search needs
+whole-requires : tie.Need-whole-requires Inv-loop μ-loop
+whole-requires c κs = search needs
 
 refuse-requires : tie.Need-refuse-requires Inv-loop μ-loop
 refuse-requires c κs = search needs
@@ -28,11 +28,11 @@ refuse-requires c κs = search needs
 returns : tie.Need-returns Inv-loop μ-loop
 returns c =
     let test = c .before .before in
-    rw (c .refuse .ensures) (fails (bad-length (test-failed (test .length-fits .result) (test .length-fits .ensures) (c .before .if1 .taken))))
+    rw (c .refuse .ensures) (fails (bad-length (test-failed (test .whole .result) (test .whole .ensures .exact) (c .before .if1 .taken))))
 
 -- an annotation whose records are looked at has the length
 size : (c : tie.Else1 Inv-loop μ-loop) → Whole 6 32 (now (c .before .before .before .before .args .annotation))
-size c = test-passed (c .before .length-fits .result) (c .before .length-fits .ensures) (c .if1 .left)
+size c = test-passed (c .before .whole .result) (c .before .whole .ensures .exact) (c .if1 .left)
 
 count-requires : tie.Need-count-requires Inv-loop μ-loop
 count-requires c κs = search needs
@@ -76,7 +76,7 @@ check-annotation-spec =
     (tie.spec
     Inv-loop
     μ-loop
-    length-fits-requires
+    whole-requires
     refuse-requires
     returns
     count-requires
