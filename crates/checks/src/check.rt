@@ -47,10 +47,12 @@ fn check_record(annotation: &[u8], filters: &[u8], i: usize) -> Reply
     requires { ⌜ ((k : ℕ) → k < i → RecordRight (entries (now filters)) (now annotation) k) ⌝ }
     ensures { λ r. ⌜ RecordChecked (now (annotation .entry)) (now (filters .entry)) i (said r) ⌝ }
 {
-    if !form_fits(annotation, filters, i) {
+    let formed = form_fits(annotation, filters, i);
+    let above = ascends(annotation, i);
+    if !formed {
         return refuse(Reason::AnnotationRecord, i);
     }
-    if !ascends(annotation, i) {
+    if !above {
         return refuse(Reason::PairOrder, i);
     }
     Reply::Count(1)

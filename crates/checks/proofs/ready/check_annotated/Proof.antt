@@ -17,7 +17,7 @@ enum-told-2 c = search needs
 
 returns : tie.Need-returns
 unfolding AnnotatedFault
-returns c = first-refused (c .enum-told2 .given .1) (c .before .before .check-filters .ensures)
+returns c = search first-refused
 
 check-annotation-requires : tie.Need-check-annotation-requires
 check-annotation-requires c κs = search needs
