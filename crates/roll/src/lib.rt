@@ -1,9 +1,12 @@
 // Rolls: node tables read, checked, and cut into runs.
-mod check;
 mod climb;
 pub mod node;
+pub mod run;
+mod scan;
 
-pub use check::check_roll;
 pub use node::count;
 pub use node::label_at;
 pub use node::parent_at;
+pub use run::end_of;
+pub use run::run_of;
+pub use scan::check_roll;
