@@ -46,8 +46,9 @@ pub fn read_text(text: &[u8], room: &mut [u8]) -> Reply {
 
 /// Call 7.
 pub fn run_of_record(roll: &[u8], record: usize) -> &[u8] {
-    let mut part = [u64::MAX; 2];
+    let mut part = UNTOLD;
     // SAFETY: as above.
     unsafe { kepolas_run_of(roll.as_ptr(), roll.len(), record, part.as_mut_ptr(), part.len()) };
-    &roll[part[0] as usize..part[1] as usize]
+    assert_eq!(part[0], 0);
+    &roll[part[1] as usize..part[2] as usize]
 }

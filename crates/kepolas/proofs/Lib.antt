@@ -1,1 +1,2 @@
 mod Words
+mod Parts

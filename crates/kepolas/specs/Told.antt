@@ -5,6 +5,9 @@ use mathlib.Core.Bool.{cond}
 use mathlib.Core.List.{List, _∷_}
 use lib.Dec.{ltb}
 use lib.ListN.{length, drop}
+use lib.Seq.{slice}
+use Rattle.reply.specs.Bytes.{Bytes}
+use Rattle.roll.specs.Promise.{RunGiven}
 use Rattle.reply.specs.Reply.{Said, count, refused}
 
 -- Three words in front of what the caller lends, or nothing where that is too short.
@@ -20,3 +23,10 @@ pub record Tells (Promise : Said → Type 0) (before after : List ℕ) : Type 0 
   pub said : Said
   pub promised : Promise said
   pub words : after ≡ told before said
+
+-- The part that call 7 gives is told by where it starts and ends in the roll.
+pub record PartTold (roll : Bytes) (k : ℕ) (before after : List ℕ) : Type 0 where
+  pub start : ℕ
+  pub end : ℕ
+  pub given : RunGiven roll k (slice start end roll)
+  pub words : after ≡ inFront before 0 start end

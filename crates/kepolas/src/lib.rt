@@ -2,10 +2,11 @@
 use reply::Reply;
 use reply::number_of;
 use roll::check_roll;
+use roll::run_of;
 ghost use mathlib.Core.Path.{_≡_};
 ghost use Rattle.reply.specs.Reply.{said};
 ghost use Rattle.roll.specs.Promise.{RollChecked};
-ghost use Rattle.kepolas.specs.Told.{inFront, told, Tells};
+ghost use Rattle.kepolas.specs.Told.{inFront, told, Tells, PartTold};
 
 // Writes three words in front of `out`, or nothing where it is too short.
 fn put(out: &mut [u64], first: u64, second: u64, third: u64)
@@ -39,4 +40,18 @@ pub extern "C" fn kepolas_check_roll(roll: &[u8], reply: &mut [u64])
 {
     let answer = check_roll(roll);
     tell(answer, reply);
+}
+
+// Call 7: 0, then where the part starts and ends in the bytes of the roll.
+#[no_mangle]
+pub extern "C" fn kepolas_run_of(roll: &[u8], k: usize, part: &mut [u64])
+    ensures { λ _. ⌜ PartTold (now (roll .entry)) k (now (part .entry)) (now (part .exit)) ⌝ }
+{
+    let size = run_of(roll, k).len();
+    if size == 0 {
+        put(part, 0, 0, 0);
+    } else {
+        let start = 4 * k;
+        put(part, 0, start as u64, (start + size) as u64);
+    }
 }
