@@ -1,2 +1,4 @@
 pub mod Rules
+pub mod Next
 pub mod Sound
+pub mod Follows
