@@ -2,3 +2,5 @@ pub mod Rules
 pub mod Next
 pub mod Sound
 pub mod Follows
+pub mod Machine
+pub mod Led
