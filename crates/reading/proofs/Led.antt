@@ -174,7 +174,7 @@ module _ {limit : ℕ} where
   mutual
     unfolding opening
 
-    led-path : {n : ℕ} {b : Bytes} {r : Result Path} → PathReads limit n b r → (P : PathPlace) → path-depth P ≡ n
+    pub led-path : {n : ℕ} {b : Bytes} {r : Result Path} → PathReads limit n b r → (P : PathPlace) → path-depth P ≡ n
         → Led limit (machine.item (λ p. p) (λ p. p) P) b (behind-path P) r
     led-path (path x y) P d = further-on (led-sequence x (λ p. p) P d) (λ σ h. led-path-on y P d σ h)
     led-path (path-stops x) P d = stop (led-sequence x (λ p. p) P d)

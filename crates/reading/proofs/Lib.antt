@@ -4,3 +4,5 @@ pub mod Sound
 pub mod Follows
 pub mod Machine
 pub mod Led
+pub mod Depth
+pub mod Place
