@@ -6,3 +6,5 @@ pub mod Machine
 pub mod Led
 pub mod Depth
 pub mod Place
+pub mod Judged
+pub mod Unique
