@@ -5,3 +5,4 @@ pub mod Steps
 pub mod Rounds
 pub mod Deciding
 pub mod Answers
+pub mod Tables
