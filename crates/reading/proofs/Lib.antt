@@ -8,3 +8,4 @@ pub mod Depth
 pub mod Place
 pub mod Judged
 pub mod Unique
+pub mod Back
