@@ -6,3 +6,4 @@ pub mod Rounds
 pub mod Deciding
 pub mod Answers
 pub mod Unique
+pub mod Tables
