@@ -19,7 +19,8 @@ module _ (b : Bytes) where
   NodeChecked i said = Checked (NodeRight b i) (Lowest (NodeRight b) (NodeFault b) (length (nodes b))) 1 said
 
   -- a fault of a record is refused, where the records before it are right
-  pub node-refused : {i n : ℕ} {s : Said} → i < length (nodes b) → ((k : ℕ) → k < i → NodeRight b k) → s ≡ refused n i → NodeFault b n i → NodeChecked i s
+  pub node-refused : {i n : ℕ} {s : Said} → i < length (nodes b) → ((k : ℕ) → k < i → NodeRight b k) → s ≡ refused n i
+      → NodeFault b n i → NodeChecked i s
   node-refused within before e f = rw e (fails (record { within = within; faulty = f; lowest = before }))
 
   -- a record that is not refused is right

@@ -20,6 +20,8 @@ ghost use Rattle.roll.specs.Promise.{RollChecked};
 
 // The parent field of the root.
 const NONE: usize = 65535;
+// The bytes of 4,096 nodes.
+const LONGEST: usize = 4 * 4096;
 
 fn refuse(reason: Reason, place: usize) -> Reply
     ensures { λ r. ⌜ said r ≡ refused (number reason) place ⌝ }
@@ -40,7 +42,7 @@ fn length_fits(roll: &[u8]) -> bool
     if n % 4 != 0 {
         return false;
     }
-    1 <= n && n <= 16384
+    1 <= n && n <= LONGEST
 }
 
 // Whether record i follows the parent rule, where the records before it do.
@@ -59,11 +61,11 @@ fn parent_fits(roll: &[u8], i: usize) -> bool
     parent_at(roll, climb(roll, before, parent)) == parent
 }
 
-// Checks record i, where the records before it are right.
+// Checks record i, where the records before it are right: 3, then 4, then 5.
 fn check_node(roll: &[u8], i: usize) -> Reply
     requires { ⌜ i < length (nodes (now roll)) ⌝ }
     requires { ⌜ ((k : ℕ) → k < i → NodeRight (now roll) k) ⌝ }
-    ensures { λ r. ⌜ Checked (NodeRight (now (roll .entry)) i) (Lowest (NodeRight (now (roll .entry))) (NodeFault (now (roll .entry))) (length (nodes (now (roll .entry))))) 1 (said r) ⌝ }
+    ensures { λ r. ⌜ (let b = now (roll .entry) in Checked (NodeRight b i) (Lowest (NodeRight b) (NodeFault b) (length (nodes b))) 1 (said r)) ⌝ }
 {
     if !is_label(label_at(roll, i)) {
         return refuse(Reason::NodeLabel, i);
@@ -77,7 +79,7 @@ fn check_node(roll: &[u8], i: usize) -> Reply
     Reply::Count(1)
 }
 
-// Check a roll: its number of nodes, or the first fault and its place.
+// Check a roll: its number of nodes, or 2, or the fault of the lowest faulty record.
 pub fn check_roll(roll: &[u8]) -> Reply
     ensures { λ r. ⌜ RollChecked (now (roll .entry)) (said r) ⌝ }
 {

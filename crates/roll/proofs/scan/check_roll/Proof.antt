@@ -69,7 +69,8 @@ loop-again c =
 returns-3 : tie.Need-returns-3 Inv-loop μ-loop
 returns-3 c =
     let counted = c .before .before in
-    roll-counted (now (counted .before .before .before .before .args .roll)) (size (counted .before)) (counted .count .ensures) (λ k l. c .before .loop .inv .1 k (omega arith))
+    let right = c .before .loop .inv .1 in
+    roll-counted (now (counted .before .before .before .before .args .roll)) (size (counted .before)) (counted .count .ensures) (λ k l. right k (omega arith))
 
 pub check-roll-spec : {M : Type 1} → statement M
 check-roll-spec =
