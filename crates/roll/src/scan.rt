@@ -3,7 +3,6 @@ use crate::climb::climb;
 use crate::node::count;
 use crate::node::label_at;
 use crate::node::parent_at;
-use crate::node::second_at;
 use reply::Reason;
 use reply::Refusal;
 use reply::Reply;
@@ -14,8 +13,8 @@ ghost use lib.Dec.{T};
 ghost use lib.ListN.{length};
 ghost use Rattle.reply.specs.Reply.{number, refused, said};
 ghost use Rattle.reply.specs.Outcome.{Lowest, Checked};
-ghost use Rattle.tree.specs.Tree.{Label};
-ghost use Rattle.roll.specs.Roll.{nodes, ParentRule, NodeRight, NodeFault, RollLength};
+ghost use Rattle.tree.specs.Tree.{Label, labelAt};
+ghost use Rattle.roll.specs.Roll.{nodes, secondByte, ParentRule, NodeRight, NodeFault, RollLength};
 ghost use Rattle.roll.specs.Promise.{RollChecked};
 
 // The parent field of the root.
@@ -29,12 +28,6 @@ fn refuse(reason: Reason, place: usize) -> Reply
     Reply::Refused(Refusal { reason, place })
 }
 
-fn is_label(label: usize) -> bool
-    ensures { λ r. ⌜ T r ↔ Label label ⌝ }
-{
-    1 <= label && label <= 64
-}
-
 fn length_fits(roll: &[u8]) -> bool
     ensures { λ r. ⌜ T r ↔ RollLength (now (roll .entry)) ⌝ }
 {
@@ -45,7 +38,22 @@ fn length_fits(roll: &[u8]) -> bool
     1 <= n && n <= LONGEST
 }
 
-// Whether record i follows the parent rule, where the records before it do.
+// The three parts of a record that is right: its label, its second byte, and its parent, which is checked where the
+// records before it follow the parent rule.
+fn label_fits(roll: &[u8], i: usize) -> bool
+    ensures { λ r. ⌜ T r ↔ Label (labelAt (nodes (now (roll .entry))) i) ⌝ }
+{
+    let label = label_at(roll, i);
+    1 <= label && label <= 64
+}
+
+fn second_fits(roll: &[u8], i: usize) -> bool
+    requires { ⌜ i < length (nodes (now roll)) ⌝ }
+    ensures { λ r. ⌜ T r ↔ (secondByte (now (roll .entry)) i ≡ 0) ⌝ }
+{
+    roll[4 * i + 1] == 0
+}
+
 fn parent_fits(roll: &[u8], i: usize) -> bool
     requires { ⌜ ((k : ℕ) → k < i → ParentRule (nodes (now roll)) k) ⌝ }
     ensures { λ r. ⌜ T r ↔ ParentRule (nodes (now (roll .entry))) i ⌝ }
@@ -67,13 +75,16 @@ fn check_node(roll: &[u8], i: usize) -> Reply
     requires { ⌜ ((k : ℕ) → k < i → NodeRight (now roll) k) ⌝ }
     ensures { λ r. ⌜ (let b = now (roll .entry) in Checked (NodeRight b i) (Lowest (NodeRight b) (NodeFault b) (length (nodes b))) 1 (said r)) ⌝ }
 {
-    if !is_label(label_at(roll, i)) {
+    let label = label_fits(roll, i);
+    let second = second_fits(roll, i);
+    let parent = parent_fits(roll, i);
+    if !label {
         return refuse(Reason::NodeLabel, i);
     }
-    if second_at(roll, i) != 0 {
+    if !second {
         return refuse(Reason::SecondByte, i);
     }
-    if !parent_fits(roll, i) {
+    if !parent {
         return refuse(Reason::ParentField, i);
     }
     Reply::Count(1)
