@@ -43,11 +43,12 @@ module _ (b : Bytes) where
     unfolding RollChecked
     roll-counted e right = passes (record { size = size; node = λ i l. right i (rw e l) }) e
 
-  -- what the reply of the check tells a caller: the table is a roll of so many nodes, or it is none
+  -- what the reply of the check tells a caller: the table is a roll of so many nodes, or
   pub roll-right : {n : ℕ} {r : Reply} → r ≡ Count n → RollChecked b (said r) → Roll b × (n ≡ length (nodes b))
   unfolding RollChecked
   roll-right e h = counted (rw e at h)
 
+  -- it is none
   pub not-roll : {r : Reply} {x : Refusal} → r ≡ Refused x → RollChecked b (said r) → ¬ Roll b
   unfolding RollChecked
   not-roll {x = x} e h = roll-wrong b (number (x .reason)) (x .place) (faulted (rw e at h))
