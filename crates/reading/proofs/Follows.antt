@@ -1,19 +1,19 @@
 -- The rules read every text of the grammar, where they may open as many brackets as it has bytes. Assumes nothing.
 use Prim.Native.Nat.{ℕ, suc, _+_, _≤_, _<_}
 use native.Mathlib.Omega.{arith}
-use mathlib.Core.Path.{_≡_, refl, sym, subst}
+use mathlib.Core.Path.{refl, sym}
 use mathlib.Core.List.{List, [], _∷_, _++_, append-nil, append-assoc, List·Memᴰ, List·Memᴰ·head, List·Memᴰ·tail, List·Memᴰ·not-nil, List·Memᴰ·eq-of-singleton, Memᴰ·cast}
 use lib.Dec.{T}
 use lib.ListN.{length, length-append}
 use Rattle.reply.specs.Bytes.{Bytes}
 use Rattle.query.specs.Syntax.{Path, Filter}
 use Rattle.text.specs.Grammar as grammar
-use Rattle.text.specs.Grammar.{LabelText, PathText, SequenceText, ItemText, AtomText, FilterText, ConjunctionText, TermText}
-use Rattle.reading.proofs.Rules.{Stop, broken, deep, Result, got, stopped, NotAt, ended, other, termBytes, NoSecond, too-low, too-high, LabelReads, one-digit, two-digits, no-digit, StarsRead, one-more, no-more}
+use Rattle.text.specs.Grammar.{LabelText, PathText, SequenceText, ItemText, AtomText}
+use Rattle.reading.proofs.Rules.{Result, got, NotAt, ended, other, termBytes, NoSecond, too-low, too-high, LabelReads, one-digit, two-digits, StarsRead, one-more, no-more}
 use Rattle.reading.proofs.Next.{apart, absent, not-at}
-use Rattle.reading.proofs.Rules.{PathReads, path, path-stops, PathGoesOn, bar, bar-stops, no-bar}
-use Rattle.reading.proofs.Rules.{SequenceReads, sequence, sequence-stops, SequenceGoesOn, slash, slash-stops, no-slash}
-use Rattle.reading.proofs.Rules.{ItemReads, item, item-stops, AtomReads, dot, letter-v, caret, greater, less, square, round}
+use Rattle.reading.proofs.Rules.{PathReads, path, PathGoesOn, bar, no-bar}
+use Rattle.reading.proofs.Rules.{SequenceReads, sequence, SequenceGoesOn, slash, no-slash}
+use Rattle.reading.proofs.Rules.{ItemReads, item, AtomReads, dot, letter-v, caret, greater, less, square, round}
 use Rattle.reading.proofs.Rules.{FilterReads, filter, FilterGoesOn, plus, no-plus}
 use Rattle.reading.proofs.Rules.{ConjunctionReads, conjunction, ConjunctionGoesOn, ampersand, no-ampersand}
 use Rattle.reading.proofs.Rules.{TermReads, exclamation, letter-t, letter-f, hash, curly, a-path}

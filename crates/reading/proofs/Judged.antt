@@ -1,8 +1,8 @@
 -- What the rules of reading come to, in the words of call 2's promise. Assumes nothing.
 use Prim.Native.Nat.{ℕ, suc, _+_, _-_, _≤_, _<_}
 use native.Mathlib.Omega.{arith}
-use mathlib.Core.Path.{_≡_, refl, sym, ap, _∙_, subst}
-use mathlib.Core.Logic.{_⊎_, inl, inr, ⊎-elim}
+use mathlib.Core.Path.{_≡_, refl, sym, ap, _∙_}
+use mathlib.Core.Logic.{⊎-elim}
 use mathlib.Core.List.{[], _∷_, _++_, append-nil}
 use lib.Dec.{T}
 use lib.ListN.{length, getD, take, length-append, List·getD-append}
@@ -11,15 +11,15 @@ use Rattle.reply.specs.Bytes.{Bytes}
 use Rattle.query.specs.Syntax.{Path}
 use Rattle.text.specs.Grammar.{PathText}
 use Rattle.text.specs.Written.{tableOf}
-use Rattle.text.specs.Promise.{TextLength, Begins, Breaks, opening, closing, howMany, OneTooMany, Fits, TextFault, too-deep, too-large, TextOf}
+use Rattle.text.specs.Promise.{TextLength, Breaks, opening, closing, howMany, OneTooMany, Fits, TextFault, too-deep, too-large, TextOf}
 use Rattle.text.specs.Promise as promise
-use Rattle.reading.proofs.Rules.{Stop, Result, got, stopped, PathReads}
+use Rattle.reading.proofs.Rules.{Result, got, stopped, PathReads}
 use Rattle.reading.proofs.Rules as rules
-use Rattle.reading.proofs.Sound.{Span, Ahead, anything, bracket, Heard, whole, begun, heard-path}
-use Rattle.reading.proofs.Machine.{top, State, look, offer, goes, depth, behind-path, Moves}
+use Rattle.reading.proofs.Sound.{Span, bracket, Heard, whole, begun, heard-path}
+use Rattle.reading.proofs.Machine.{top, State, start, depth, behind-path, Moves}
 use Rattle.reading.proofs.Led.{Here, Led, led, broke, deepened, led-path}
-use Rattle.reading.proofs.Depth.{Front, passes}
-use Rattle.reading.proofs.Place.{start, begins, breaks}
+use Rattle.reading.proofs.Depth.{passes}
+use Rattle.reading.proofs.Place.{begins, breaks}
 
 -- What is true of a text that is read so.
 pub data Judged (text : Bytes) : Result Path → Type 0 where

@@ -2,15 +2,14 @@
 use Prim.Native.Nat.{ℕ, suc, _+_, _-_, _*_, _≤_, _<_}
 use native.Mathlib.Nat.{zero-add}
 use native.Mathlib.Omega.{arith}
-use mathlib.Core.Path.{_≡_, refl, sym, ap, _∙_}
-use mathlib.Core.Bool.{Bool, true, false}
+use mathlib.Core.Path.{_≡_, refl, ap, _∙_}
 use mathlib.Core.List.{List, [], _∷_, List·Memᴰ·head, List·Memᴰ·tail}
-use lib.Dec.{T, eqb, eqb→eq}
+use lib.Dec.{T}
 use Rattle.reply.specs.Bytes.{Bytes}
 use Rattle.query.specs.Syntax.{Path, Filter}
 use Rattle.query.specs.Syntax as syntax
 use Rattle.text.specs.Promise.{opening}
-use Rattle.reading.proofs.Rules.{NotAt, other, NoSecond, NoDigit, atomBytes, termBytes, Stop, broken, deep, Result, got, stopped, LabelReads, one-digit, two-digits, no-digit, StarsRead, one-more, no-more}
+use Rattle.reading.proofs.Rules.{NotAt, other, NoSecond, NoDigit, termBytes, Stop, broken, deep, Result, got, stopped, LabelReads, one-digit, two-digits, no-digit, StarsRead, one-more, no-more}
 use Rattle.reading.proofs.Rules.{PathReads, path, path-stops, PathGoesOn, bar, bar-stops, no-bar}
 use Rattle.reading.proofs.Rules.{SequenceReads, sequence, sequence-stops, SequenceGoesOn, slash, slash-stops, no-slash}
 use Rattle.reading.proofs.Rules.{ItemReads, item, item-stops, AtomReads, dot, letter-v, caret, greater, less, square, square-open, square-stops, square-deep, round, round-open, round-stops, round-deep, no-atom}

@@ -6,6 +6,7 @@ pub mod Machine
 pub mod Led
 pub mod Depth
 pub mod Place
+pub mod Determined
 pub mod Judged
 pub mod Unique
 pub mod Back

@@ -1,9 +1,9 @@
 -- A machine that goes through a text byte by byte and keeps what is open: what each of its states takes next. Assumes nothing.
-use Prim.Native.Nat.{ℕ, zero, suc, _+_, _-_, _*_, _≤_, _<_}
+use Prim.Native.Nat.{ℕ, suc, _+_, _-_, _*_, _≤_, _<_}
 use native.Mathlib.Decide.{decLe, map-dec}
-use mathlib.Core.Path.{_≡_, refl}
+use mathlib.Core.Path.{_≡_}
 use mathlib.Core.Logic.{Dec·and}
-use mathlib.Core.Bool.{Bool, true, false}
+use mathlib.Core.Bool.{true, false}
 use mathlib.Core.List.{List, [], _∷_}
 use lib.Dec.{T, eqb}
 use Rattle.reply.specs.Bytes.{Bytes}
@@ -148,6 +148,10 @@ depth (term o a F) = filter-depth F
 depth (term-read o F f) = filter-depth F
 depth (hash o a F) = filter-depth F
 depth (label l o a F) = filter-depth F
+
+-- where a text begins
+abbrev pub start : State
+start = item (λ p. p) (λ p. p) top
 
 -- From one state and unread text the machine comes to others, and opens no bracket while `limit` are open.
 pub data Moves (limit : ℕ) : State → Bytes → State → Bytes → Type 0 where

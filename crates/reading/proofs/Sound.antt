@@ -1,7 +1,7 @@
 -- What the rules of reading get is what a text of the grammar stands for, and what they read before a stop begins such a text. Assumes nothing.
-use Prim.Native.Nat.{ℕ, zero-le}
+use Prim.Native.Nat.{ℕ}
 use native.Mathlib.Omega.{arith}
-use mathlib.Core.Path.{_≡_, refl, ap, _∙_}
+use mathlib.Core.Path.{_≡_, refl, ap}
 use mathlib.Core.List.{[], _∷_, _++_, append-assoc}
 use Rattle.reply.specs.Bytes.{Bytes}
 use Rattle.query.specs.Syntax.{Path, Filter}
