@@ -1,5 +1,5 @@
 pub mod Rules
-pub mod Next
+pub mod NextByte
 pub mod Sound
 pub mod Follows
 pub mod Machine

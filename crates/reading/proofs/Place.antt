@@ -17,15 +17,18 @@ use Rattle.reading.proofs.Depth.{look-ahead, passes, text-led}
 data Halt : Type 0 where
   halts : Next → Bytes → Halt
 
+-- by what each state takes
 run : State → Bytes → Halt
 run σ [] = halts (look (offer σ) []) []
 run σ (c ∷ b) = elim (look (offer σ) (c ∷ b)) [ stuck ↦ halts stuck (c ∷ b) | goes τ ↦ run τ b | finished p ↦ halts (finished p) (c ∷ b) ]
 
+-- moves do not change where it halts
 run-moves : {limit : ℕ} {σ τ : State} {b more : Bytes} → Moves limit σ b τ more → run σ b ≡ run τ more
 unfolding run
 run-moves stays = refl
 run-moves (moves e l x) = rw (e, run) (run-moves x)
 
+-- a stuck state is a halt
 run-stuck : (σ : State) (b : Bytes) → look (offer σ) b ≡ stuck → run σ b ≡ halts stuck b
 unfolding run
 run-stuck σ [] e = rw e
