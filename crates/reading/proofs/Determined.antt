@@ -51,11 +51,13 @@ module _ (limit : ℕ) where
       let z : _≡_ {A = ℕ} 0 1 = cc in
       omega arith
 
+  -- where a path is got, the machine says so
   got-result : {τ : State} {p : Path} (more : Bytes) → Here τ (ends p) more → got p more ≡ result τ more
   unfolding result
   got-result [] h = rw (h .now, result)
   got-result (c ∷ b) h = rw (h .now, h .at-end, result)
 
+  -- where the rules come to a result, the machine says so
   halted : {b : Bytes} {r : Result Path} → Led limit start b (behind-path top) r → Halted b r
   unfolding Final result
   halted (led {τ = τ} {more = more} m h) = record { state = τ; rest = more; path = m; final = takes-none h (λ c b. refl); says = got-result more h }

@@ -48,9 +48,9 @@ module _ {text : Bytes} {τ : State} where
       let s : Bytes = f .front in
       let size : length text ≡ length s + suc (length more) = ap length (f .splits) ∙ length-append s (c ∷ more) in
       let i : ℕ = length text - suc (length more) in
-      let at : length s ≡ i = omega arith in
-      let byte : getD text i 0 ≡ c = ap (λ (b : Bytes). getD b i 0) (f .splits) ∙ getD-at s c more 0 i at in
-      let front : take i text ≡ s = ap (take i) (f .splits) ∙ take-at s (c ∷ more) i at in
+      let reached : length s ≡ i = omega arith in
+      let byte : getD text i 0 ≡ c = ap (λ (b : Bytes). getD b i 0) (f .splits) ∙ getD-at s c more 0 i reached in
+      let front : take i text ≡ s = ap (take i) (f .splits) ∙ take-at s (c ∷ more) i reached in
       let low : depth τ ≤ 32 = f .low (omega arith) in
       record { within = omega arith; bracket = rw byte o; already = rw front (omega (arith, f .balanced)) }
 

@@ -39,7 +39,7 @@ text-runs : {s : Bytes} {p : Path} → PathText s p → run start s ≡ halts (f
 unfolding run
 text-runs x = let reached = text-led x in run-moves (reached .path) ∙ ap (λ (n : Next). halts n []) (reached .found)
 
--- "the grammar gives a text at most one path"
+-- the grammar gives a text at most one path
 pub path-unique : (text : Bytes) (p q : Path) → PathText text p → PathText text q → p ≡ q
 path-unique text p q x y =
     let e : halts (finished p) [] ≡ halts (finished q) [] = sym (text-runs x) ∙ text-runs y in

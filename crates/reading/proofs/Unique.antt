@@ -24,6 +24,7 @@ module _ (text : Bytes) where
   lowest : {i j : ℕ} → OneTooMany text i → ((k : ℕ) → k < j → ¬ OneTooMany text k) → ¬ (i < j)
   lowest {i} a b l = b i l a
 
+  -- a text has at most one fault
   pub text-one : OneFault (TextFault text)
   text-one n m p q (bad-length l) (bad-length l′) = (refl, refl)
   text-one n m p q (bad-length l) (breaks r b s) = absurd (l r)
@@ -42,6 +43,7 @@ module _ (text : Bytes) where
   text-one n m p q (too-large r x s f) (too-deep r′ o s′ b) = absurd (s q o)
   text-one n m p q (too-large r x s f) (too-large r′ x′ s′ f′) = (refl, refl)
 
+  -- a text with a fault is no text of a path
   pub text-wrong : Wrong ((p : Path) × TextOf p text) (TextFault text)
   text-wrong n i (bad-length l) (p, t) = l (t .length)
   text-wrong n i (breaks r b s) (p, t) = b .no-path p (t .path)
