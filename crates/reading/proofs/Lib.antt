@@ -1,6 +1,7 @@
 pub mod Rules
 pub mod NextByte
 pub mod Sound
+pub mod Deciding
 pub mod Follows
 pub mod Machine
 pub mod Led
