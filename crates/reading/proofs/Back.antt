@@ -1,12 +1,12 @@
 -- A path's table, read back, stands for the path, and its bytes are read back as its entries. Assumes nothing.
-use Prim.Native.Nat.{ℕ, suc, _+_, _-_, _/_, _%_, _≤_, _<_}
+use Prim.Native.Nat.{ℕ, _+_, _-_, _/_, _%_, _≤_, _<_}
 use native.Mathlib.Nat.{zero-add}
 use native.Mathlib.Omega.{arith}
-use mathlib.Core.Path.{_≡_, refl, sym, ap, ap₂, _∙_, subst, subst₂}
+use mathlib.Core.Path.{_≡_, refl, ap, _∙_}
 use mathlib.Core.List.{List, [], _∷_, _++_, append-assoc}
 use lib.ListN.{length, getD, length-append}
 use lib.Seq.{getD-at}
-use Rattle.reply.specs.Bytes.{Bytes, two, twoBytes}
+use Rattle.reply.specs.Bytes.{two, twoBytes}
 use Rattle.query.specs.Kind.{find, kinds}
 use Rattle.query.specs.Syntax.{Path, self, child, parent, next, previous, stay, then, either, star}
 use Rattle.query.specs.Syntax.{Filter, labelled, leads, always, never, not, and, or}
@@ -39,6 +39,7 @@ module _ (before : List Meant) where
       }
 
   module _ (n : ℕ) (count : length before ≡ n) where
+    -- how many entries there are then
     next-count : (es : Entries) → length (readOn mean before es) ≡ n + length es
     next-count es = omega (arith, read-length mean before es)
 
@@ -63,6 +64,7 @@ module _ (before : List Meant) where
         let second : meantAt (readOn mean (readOn mean before left) right) (n + length left + length right - 1) ≡ y = rw (next-count left) at (r .last) in
         rw (← first, ← second, ← m) there
 
+-- The last entry of a path stands for the path, and of a filter for the filter.
 mutual
   unfolding pathEntries readOn mean build find kinds pathIn filterIn thePath theFilter
 
@@ -120,19 +122,23 @@ entries-back (one {e = e} l r more) =
     let rest = entries-back more in
     λ i. record { kind = e .kind; label = e .label; left = two-back (e .left) l i; right = two-back (e .right) r i } ∷ rest i
 
+-- of two lists together
 below-append : {bound : ℕ} {es more : Entries} → Below bound es → Below bound more → Below bound (es ++ more)
 below-append none y = y
 below-append (one l r x) y = one l r (below-append x y)
 
+-- below a greater bound
 below-more : {bound more : ℕ} {es : Entries} → bound ≤ more → Below bound es → Below more es
 below-more h none = none
 below-more h (one {e = e} l r x) = one {e = e} (omega arith) (omega arith) (below-more h x)
 
 -- with n entries before them, an entry behind none, one or two operands names operands below its own number
 module _ (n kind : ℕ) where
+  -- behind none
   none-below : (label : ℕ) → Below (n + 1) (record { kind = kind; label = label; left = 0; right = 0 } ∷ [])
   none-below label = one {e = record { kind = kind; label = label; left = 0; right = 0 }} (omega arith) (omega arith) none
 
+  -- behind one
   one-below : (es : Entries) → Below (n + length es) es
       → let new : Entries = es ++ record { kind = kind; label = 0; left = n + length es - 1; right = 0 } ∷ [] in Below (n + length new) new
   one-below es x =
@@ -140,6 +146,7 @@ module _ (n kind : ℕ) where
       let size = length-append es (e ∷ []) in
       below-append (below-more (omega arith) x) (one {e = e} (omega arith) (omega arith) none)
 
+  -- behind two
   two-below : (left right : Entries) → Below (n + length left) left → Below (n + length left + length right) right
       → let new : Entries = left ++ (right ++ record { kind = kind; label = 0; left = n + length left - 1; right = n + length left + length right - 1 } ∷ []) in Below (n + length new) new
   two-below left right x y =
@@ -148,6 +155,7 @@ module _ (n kind : ℕ) where
       let size′ = length-append right (e ∷ []) in
       below-append (below-more (omega arith) x) (below-append (below-more (omega arith) y) (one {e = e} (omega arith) (omega arith) none))
 
+-- Every entry of a path or filter names entries before itself.
 mutual
   unfolding pathEntries
 

@@ -1,22 +1,28 @@
 -- What the machine passes over: its bytes, and the brackets among them. Assumes nothing.
 use Prim.Native.Nat.{ℕ, zero, suc, _+_, _-_, _*_, _≤_, _<_}
+use native.Mathlib.Nat.{le-refl}
 use native.Mathlib.Omega.{arith}
-use mathlib.Core.Path.{_≡_, refl, sym, ap, _∙_}
+use mathlib.Core.Path.{_≡_, refl, ap, _∙_}
 use mathlib.Core.Bool.{Bool, true, false}
-use mathlib.Core.List.{List, [], _∷_, _++_}
+use mathlib.Core.List.{[], _∷_, _++_, append-nil}
 use lib.Dec.{T, eqb, eqb→eq}
 use lib.ListN.{length, getD, take}
 use Rattle.reply.specs.Bytes.{Bytes}
 use Rattle.query.specs.Syntax.{Path, Filter, labelled}
 use Rattle.text.specs.Promise.{opening, closing, howMany}
-use Rattle.reading.proofs.Next.{digit-opens-nothing, digit-closes-nothing}
-use Rattle.reading.proofs.Machine.{PathPlace, top, in-round, in-filter, FilterPlace, in-square, in-curly, State, item, item-read, term, term-read, hash, label, Offers, nothing, ends, on, digit, Digit, dec-digit, Next, stuck, goes, finished, look, ons, atoms, offer, depth, path-depth, filter-depth, Moves, stays, moves}
-use Rattle.reading.proofs.Machine.{behind-filter, behind-conjunction, behind-term, behind-path, behind-sequence, behind-item}
+use Rattle.text.specs.Grammar.{PathText}
+use Rattle.reading.proofs.Rules.{got}
+use Rattle.reading.proofs.Follows.{text-read}
+use Rattle.reading.proofs.NextByte.{digit-opens-nothing, digit-closes-nothing}
+use Rattle.reading.proofs.Machine.{PathPlace, top, in-round, in-filter, FilterPlace, in-square, in-curly, State, start, item, item-read, term, term-read, hash, label, Offers, nothing, ends, on, digit, Digit, dec-digit, Next, stuck, goes, finished, look, ons, atoms, offer, depth, path-depth, filter-depth, Moves, stays, moves}
+use Rattle.reading.proofs.Machine.{behind-filter, behind-term, behind-path}
+use Rattle.reading.proofs.Led.{Led, led, led-path}
 
--- how many brackets a byte opens, and closes
+-- how many brackets a byte opens
 abbrev opens : ℕ → ℕ
 opens c = howMany opening (c ∷ [])
 
+-- and closes
 abbrev closes : ℕ → ℕ
 closes c = howMany closing (c ∷ [])
 
@@ -27,6 +33,7 @@ Balanced d (ends p) = Unit {0}
 Balanced d (on c σ rest) = (opens c + d ≡ closes c + depth σ) × Balanced d rest
 Balanced d (digit l f rest) = ((m : ℕ) → depth (f m) ≡ d) × Balanced d rest
 
+-- what stands behind a filter, a term and a path is balanced, and so are the atoms and all that a state offers
 behind-filter-balanced : (F : FilterPlace) (f : Filter) → Balanced (filter-depth F) (behind-filter F f)
 unfolding howMany opening closing
 behind-filter-balanced (in-square e t P) f = (omega arith, tt)
@@ -60,6 +67,7 @@ weight : (is : ℕ → Bool) (c : ℕ) {x : Bool} → is c ≡ x → howMany is 
 unfolding howMany
 weight is c e = rw (e, howMany)
 
+-- bytes count one by one
 how-many-cons : (is : ℕ → Bool) (c : ℕ) (b : Bytes) → howMany is (c ∷ b) ≡ howMany is (c ∷ []) + howMany is b
 unfolding howMany
 how-many-cons is c b = go (is c) refl
@@ -68,17 +76,19 @@ how-many-cons is c b = go (is c) refl
     go true e = rw (e, howMany) (omega arith)
     go false e = rw (e, howMany) (omega arith)
 
+-- how many brackets are open behind a byte
 depthAt : Next → ℕ
 depthAt stuck = 0
 depthAt (goes σ) = depth σ
 depthAt (finished p) = 0
 
+-- two states that a byte leads to are one
+same-depth : {σ τ : State} → goes σ ≡ goes τ → depth σ ≡ depth τ
+unfolding depthAt
+same-depth e = ap depthAt e
+
 -- a move leads to as many open brackets as its byte says
 module _ (c d : ℕ) (b : Bytes) (τ : State) where
-  same-depth : {σ : State} → goes σ ≡ goes τ → depth σ ≡ depth τ
-  unfolding depthAt
-  same-depth e = ap depthAt e
-
   look-balanced : (o : Offers) → Balanced d o → look o (c ∷ b) ≡ goes τ → opens c + d ≡ closes c + depth τ
   look-balanced nothing h e = let z : _≡_ {A = ℕ} 0 1 = cc in absurd (omega arith)
   look-balanced (ends p) h e = let z : _≡_ {A = ℕ} 0 1 = cc in absurd (omega arith)
@@ -120,6 +130,7 @@ rises c {d} {e} {limit} h l m = go (opening c) refl
     go true q = let room : d < limit = l (rw q tt) in omega (arith, weight opening c q)
     go false q = omega (arith, weight opening c q)
 
+-- every run of moves passes over such bytes
 pub passes : {limit : ℕ} {σ τ : State} {b more : Bytes} → Moves limit σ b τ more → Front limit σ b τ more
 unfolding howMany
 passes {limit} {σ} stays = record { front = []; splits = refl; again = λ rest. stays; balanced = refl; shallow = λ k l t. absurd (omega arith); low = λ h. h }
@@ -144,3 +155,41 @@ passes {limit} {σ} (moves {τ = τ} {ω = ω} {c = c} {b = b} {more = more} e l
         room (suc k) m t =
             let h = f .shallow k (omega arith) t in
             omega (arith, how-many-cons opening c (take k (f .front)), how-many-cons closing c (take k (f .front)), step, h)
+
+-- where the machine is stuck, no text ends
+never-ends : {A : Type 0} {p : Path} → stuck ≡ finished p → A
+never-ends h = let z : _≡_ {A = ℕ} 0 1 = cc in absurd (omega arith)
+
+-- a state in which a text may end has no bracket open
+at-top : (τ : State) {p : Path} → look (offer τ) [] ≡ finished p → depth τ ≡ 0
+at-top (item e t P) h = never-ends h
+at-top (item-read e t top p) h = refl
+at-top (item-read e t (in-round e′ t′ P) p) h = never-ends h
+at-top (item-read e t (in-filter o a (in-square e′ t′ P)) p) h = never-ends h
+at-top (item-read e t (in-filter o a (in-curly o′ a′ F)) p) h = never-ends h
+at-top (term o a F) h = never-ends h
+at-top (term-read o (in-square e t P) f) h = never-ends h
+at-top (term-read o (in-curly o′ a F) f) h = never-ends h
+at-top (hash o a F) h = never-ends h
+at-top (label l o a (in-square e t P)) h = never-ends h
+at-top (label l o a (in-curly o′ a′ F)) h = never-ends h
+
+-- The machine goes to the end of a text of the grammar, and finds its path.
+pub record Reached (s : Bytes) (p : Path) : Type 0 where
+  pub state : State
+  pub path : Moves (length s) start s state []
+  pub found : look (offer state) [] ≡ finished p
+
+-- since the rules read the text, and lead the machine
+pub text-led : {s : Bytes} {p : Path} → PathText s p → Reached s p
+text-led {s} {p} x = go (led-path (text-read (length s) (le-refl (length s)) x) top refl)
+  where
+    go : Led (length s) start s (behind-path top) (got p []) → Reached s p
+    go (led {τ = τ} m h) = record { state = τ; path = m; found = h .now }
+
+-- in a text of the grammar the brackets balance
+pub text-balanced : {s : Bytes} {p : Path} → PathText s p → howMany opening s ≡ howMany closing s
+text-balanced x =
+    let reached = text-led x in
+    let f = passes (reached .path) in
+    rw (f .splits, append-nil) (omega (arith, f .balanced, at-top (reached .state) (reached .found)))

@@ -1,19 +1,19 @@
 -- The rules read every text of the grammar, where they may open as many brackets as it has bytes. Assumes nothing.
 use Prim.Native.Nat.{ℕ, suc, _+_, _≤_, _<_}
 use native.Mathlib.Omega.{arith}
-use mathlib.Core.Path.{_≡_, refl, sym, subst}
+use mathlib.Core.Path.{refl, sym}
 use mathlib.Core.List.{List, [], _∷_, _++_, append-nil, append-assoc, List·Memᴰ, List·Memᴰ·head, List·Memᴰ·tail, List·Memᴰ·not-nil, List·Memᴰ·eq-of-singleton, Memᴰ·cast}
 use lib.Dec.{T}
 use lib.ListN.{length, length-append}
 use Rattle.reply.specs.Bytes.{Bytes}
 use Rattle.query.specs.Syntax.{Path, Filter}
 use Rattle.text.specs.Grammar as grammar
-use Rattle.text.specs.Grammar.{LabelText, PathText, SequenceText, ItemText, AtomText, FilterText, ConjunctionText, TermText}
-use Rattle.reading.proofs.Rules.{Stop, broken, deep, Result, got, stopped, NotAt, ended, other, termBytes, NoSecond, too-low, too-high, LabelReads, one-digit, two-digits, no-digit, StarsRead, one-more, no-more}
-use Rattle.reading.proofs.Next.{apart, absent, not-at}
-use Rattle.reading.proofs.Rules.{PathReads, path, path-stops, PathGoesOn, bar, bar-stops, no-bar}
-use Rattle.reading.proofs.Rules.{SequenceReads, sequence, sequence-stops, SequenceGoesOn, slash, slash-stops, no-slash}
-use Rattle.reading.proofs.Rules.{ItemReads, item, item-stops, AtomReads, dot, letter-v, caret, greater, less, square, round}
+use Rattle.text.specs.Grammar.{LabelText, PathText, SequenceText, ItemText, AtomText}
+use Rattle.reading.proofs.Rules.{Result, got, NotAt, ended, other, termBytes, NoSecond, too-low, too-high, LabelReads, one-digit, two-digits, StarsRead, one-more, no-more}
+use Rattle.reading.proofs.NextByte.{apart, absent, not-at}
+use Rattle.reading.proofs.Rules.{PathReads, path, PathGoesOn, bar, no-bar}
+use Rattle.reading.proofs.Rules.{SequenceReads, sequence, SequenceGoesOn, slash, no-slash}
+use Rattle.reading.proofs.Rules.{ItemReads, item, AtomReads, dot, letter-v, caret, greater, less, square, round}
 use Rattle.reading.proofs.Rules.{FilterReads, filter, FilterGoesOn, plus, no-plus}
 use Rattle.reading.proofs.Rules.{ConjunctionReads, conjunction, ConjunctionGoesOn, ampersand, no-ampersand}
 use Rattle.reading.proofs.Rules.{TermReads, exclamation, letter-t, letter-f, hash, curly, a-path}
@@ -22,9 +22,11 @@ use Rattle.reading.proofs.Rules.{TermReads, exclamation, letter-t, lett
 abbrev behindBytes : List ℕ
 behindBytes = 38 ∷ 43 ∷ 93 ∷ 125 ∷ []
 
+-- the text goes on with one of them
 data Behind : Bytes → Type 0 where
   behind : {c : ℕ} {b : Bytes} → List·Memᴰ c behindBytes → Behind (c ∷ b)
 
+-- so it does not go on with any other byte
 behind-not-at : {c : ℕ} {b : Bytes} → T (apart c behindBytes) → Behind b → NotAt (c ∷ []) b
 behind-not-at t (behind m) = other (λ k. absent behindBytes t (Memᴰ·cast (sym (List·Memᴰ·eq-of-singleton k)) m))
 
@@ -40,6 +42,7 @@ at-square = behind (List·Memᴰ·tail (List·Memᴰ·tail (List·Memᴰ·head r
 at-curly : {b : Bytes} → Behind (125 ∷ b)
 at-curly = behind (List·Memᴰ·tail (List·Memᴰ·tail (List·Memᴰ·tail (List·Memᴰ·head refl))))
 
+-- nor with a digit
 no-second : {d : ℕ} {b : Bytes} → Behind b → NoSecond d b
 no-second (behind {c = c} (List·Memᴰ·head e)) = too-low {c = c} (omega arith)
 no-second (behind {c = c} (List·Memᴰ·tail (List·Memᴰ·head e))) = too-low {c = c} (omega arith)
@@ -47,6 +50,7 @@ no-second (behind {c = c} (List·Memᴰ·tail (List·Memᴰ·tail (List·Memᴰ�
 no-second (behind {c = c} (List·Memᴰ·tail (List·Memᴰ·tail (List·Memᴰ·tail (List·Memᴰ·head e))))) = too-high {c = c} (omega arith)
 no-second (behind (List·Memᴰ·tail (List·Memᴰ·tail (List·Memᴰ·tail (List·Memᴰ·tail m))))) = absurd (List·Memᴰ·not-nil m)
 
+-- a label is read as its number
 label-followed : {s more : Bytes} {l : ℕ} → LabelText s l → Behind more → LabelReads (s ++ more) (got l more)
 label-followed (grammar.one-digit l h) a = one-digit l h (no-second a)
 label-followed (grammar.two-digits l h m) a = two-digits l h m
@@ -73,6 +77,7 @@ path-begins : {s : Bytes} {p : Path} → PathText s p → (more : Bytes) → Not
 path-begins (grammar.one-sequence x) more = sequence-begins x more
 path-begins (grammar.bar {u = u} x y) more = rw append-assoc (path-begins x (124 ∷ u ++ more))
 
+-- A text of each kind is read as what it stands for, before any rest that cannot be taken for more of it; where the rest may go on, reading goes on there.
 module _ (limit : ℕ) where
   abbrev PathFollowed : Bytes → Path → Type 0
   PathFollowed s p =
@@ -103,6 +108,7 @@ module _ (limit : ℕ) where
   abbrev TermFollowed : Bytes → Filter → Type 0
   TermFollowed s f = (n : ℕ) (more : Bytes) → n + length s ≤ limit → Behind more → TermReads limit n (s ++ more) (got f more)
 
+  -- by induction over the grammar, all kinds at once
   path-followed : {s : Bytes} {p : Path} → PathText s p → PathFollowed s p
   path-followed x =
       elim x as (λ s p y. PathFollowed s p) (λ s p y. SequenceFollowed s p) (λ s p y. ItemFollowed s p) (λ s p y. AtomFollowed s p)

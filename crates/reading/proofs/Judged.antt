@@ -1,8 +1,8 @@
 -- What the rules of reading come to, in the words of call 2's promise. Assumes nothing.
 use Prim.Native.Nat.{ℕ, suc, _+_, _-_, _≤_, _<_}
 use native.Mathlib.Omega.{arith}
-use mathlib.Core.Path.{_≡_, refl, sym, ap, _∙_, subst}
-use mathlib.Core.Logic.{_⊎_, inl, inr, ⊎-elim}
+use mathlib.Core.Path.{_≡_, refl, sym, ap, _∙_}
+use mathlib.Core.Logic.{⊎-elim}
 use mathlib.Core.List.{[], _∷_, _++_, append-nil}
 use lib.Dec.{T}
 use lib.ListN.{length, getD, take, length-append, List·getD-append}
@@ -11,22 +11,22 @@ use Rattle.reply.specs.Bytes.{Bytes}
 use Rattle.query.specs.Syntax.{Path}
 use Rattle.text.specs.Grammar.{PathText}
 use Rattle.text.specs.Written.{tableOf}
-use Rattle.text.specs.Promise.{TextLength, Begins, Breaks, opening, closing, howMany, OneTooMany, Fits, TextFault, too-deep, too-large, TextOf}
+use Rattle.text.specs.Promise.{TextLength, Breaks, opening, closing, howMany, OneTooMany, Fits, TextFault, too-deep, too-large, TextOf}
 use Rattle.text.specs.Promise as promise
-use Rattle.reading.proofs.Rules.{Stop, Result, got, stopped, PathReads}
+use Rattle.reading.proofs.Rules.{Result, got, stopped, PathReads}
 use Rattle.reading.proofs.Rules as rules
-use Rattle.reading.proofs.Sound.{Span, Ahead, anything, bracket, Heard, whole, begun, heard-path}
-use Rattle.reading.proofs.Machine.{top, State, look, offer, goes, depth, behind-path, Moves}
+use Rattle.reading.proofs.Sound.{Span, bracket, Heard, whole, begun, heard-path}
+use Rattle.reading.proofs.Machine.{top, State, start, depth, behind-path, Moves}
 use Rattle.reading.proofs.Led.{Here, Led, led, broke, deepened, led-path}
-use Rattle.reading.proofs.Depth.{Front, passes}
-use Rattle.reading.proofs.Place.{start, begins, breaks}
+use Rattle.reading.proofs.Depth.{passes}
+use Rattle.reading.proofs.Place.{begins, breaks}
 
 -- What is true of a text that is read so.
 pub data Judged (text : Bytes) : Result Path → Type 0 where
-  read : {p : Path} → PathText text p → ((k : ℕ) → ¬ OneTooMany text k) → Judged text (got p [])
-  not-whole : {p : Path} {c : ℕ} {more : Bytes} → TextFault text 14 (length text - suc (length more)) → Judged text (got p (c ∷ more))
-  broken : {more : Bytes} → TextFault text 14 (length text - length more) → Judged text (stopped rules.broken more)
-  deep : {more : Bytes} → TextFault text 15 (length text - length more) → Judged text (stopped rules.deep more)
+  is-read : {p : Path} → PathText text p → ((k : ℕ) → ¬ OneTooMany text k) → Judged text (got p [])
+  is-left-over : {p : Path} {c : ℕ} {more : Bytes} → TextFault text 14 (length text - suc (length more)) → Judged text (got p (c ∷ more))
+  is-broken : {more : Bytes} → TextFault text 14 (length text - length more) → Judged text (stopped rules.broken more)
+  is-deep : {more : Bytes} → TextFault text 15 (length text - length more) → Judged text (stopped rules.deep more)
 
 module _ {text : Bytes} {τ : State} where
   -- no bracket that the machine has passed over is one too many
@@ -48,9 +48,9 @@ module _ {text : Bytes} {τ : State} where
       let s : Bytes = f .front in
       let size : length text ≡ length s + suc (length more) = ap length (f .splits) ∙ length-append s (c ∷ more) in
       let i : ℕ = length text - suc (length more) in
-      let at : length s ≡ i = omega arith in
-      let byte : getD text i 0 ≡ c = ap (λ (b : Bytes). getD b i 0) (f .splits) ∙ getD-at s c more 0 i at in
-      let front : take i text ≡ s = ap (take i) (f .splits) ∙ take-at s (c ∷ more) i at in
+      let reached : length s ≡ i = omega arith in
+      let byte : getD text i 0 ≡ c = ap (λ (b : Bytes). getD b i 0) (f .splits) ∙ getD-at s c more 0 i reached in
+      let front : take i text ≡ s = ap (take i) (f .splits) ∙ take-at s (c ∷ more) i reached in
       let low : depth τ ≤ 32 = f .low (omega arith) in
       record { within = omega arith; bracket = rw byte o; already = rw front (omega (arith, f .balanced)) }
 
@@ -66,19 +66,19 @@ pub judged : {text : Bytes} {r : Result Path} → TextLength text → PathReads 
 judged {text} length-right x = go (heard-path x) (led-path x top refl)
   where
     got-some : {p : Path} {τ : State} (more : Bytes) → Span PathText text p more → Moves 32 start text τ more → Here τ (behind-path top p) more → Judged text (got p more)
-    got-some {p} [] v m h = read {p = p} (rw (v .splits, append-nil) (v .text)) (λ k o. let l : k < length text = o .within in none-before m k (omega arith) o)
-    got-some {p} (c ∷ more) v m h = not-whole (promise.breaks length-right (breaks {p = p} (v .front) [] m (h .now) (v .splits) (rw append-nil (v .text))) (none-before m))
+    got-some {p} [] v m h = is-read {p = p} (rw (v .splits, append-nil) (v .text)) (λ k o. let l : k < length text = o .within in none-before m k (omega arith) o)
+    got-some {p} (c ∷ more) v m h = is-left-over (promise.breaks length-right (breaks {p = p} (v .front) [] m (h .now) (v .splits) (rw append-nil (v .text))) (none-before m))
 
     go : {r : Result Path} → Heard PathText text r → Led 32 start text (behind-path top) r → Judged text r
     go (whole v) (led {more = more} m h) = got-some more v m h
-    go (begun u t e w a) (broke m h) = broken (promise.breaks length-right (breaks u t m (h .now) e w) (none-before m))
-    go (begun u t e w (bracket {c = c} {more = more} {t = t′})) (deepened m g o l) = deep (too-deep length-right (one-too-many m o l) (none-before m) (not-broken u c t′ more e w))
+    go (begun u t e w a) (broke m h) = is-broken (promise.breaks length-right (breaks u t m (h .now) e w) (none-before m))
+    go (begun u t e w (bracket {c = c} {more = more} {t = t′})) (deepened m g o l) = is-deep (too-deep length-right (one-too-many m o l) (none-before m) (not-broken u c t′ more e w))
 
 module _ {text : Bytes} {p : Path} (length-right : TextLength text) where
   -- a text that is read whole is one of its path, if its table fits
   pub read-whole : Judged text (got p []) → Fits (tableOf p) → TextOf p text
-  read-whole (read x shallow) fits = record { length = length-right; path = x; shallow = shallow; fits = fits }
+  read-whole (is-read x shallow) fits = record { length = length-right; path = x; shallow = shallow; fits = fits }
 
   -- and otherwise its table is too large
   pub read-too-large : Judged text (got p []) → ¬ Fits (tableOf p) → TextFault text 16 0
-  read-too-large (read x shallow) unfit = too-large length-right x shallow unfit
+  read-too-large (is-read x shallow) unfit = too-large length-right x shallow unfit

@@ -2,15 +2,14 @@
 use Prim.Native.Nat.{ℕ, suc, _+_, _-_, _*_, _≤_, _<_}
 use native.Mathlib.Nat.{zero-add}
 use native.Mathlib.Omega.{arith}
-use mathlib.Core.Path.{_≡_, refl, sym, ap, _∙_}
-use mathlib.Core.Bool.{Bool, true, false}
+use mathlib.Core.Path.{_≡_, refl, ap, _∙_}
 use mathlib.Core.List.{List, [], _∷_, List·Memᴰ·head, List·Memᴰ·tail}
-use lib.Dec.{T, eqb, eqb→eq}
+use lib.Dec.{T}
 use Rattle.reply.specs.Bytes.{Bytes}
 use Rattle.query.specs.Syntax.{Path, Filter}
 use Rattle.query.specs.Syntax as syntax
 use Rattle.text.specs.Promise.{opening}
-use Rattle.reading.proofs.Rules.{NotAt, other, NoSecond, NoDigit, atomBytes, termBytes, Stop, broken, deep, Result, got, stopped, LabelReads, one-digit, two-digits, no-digit, StarsRead, one-more, no-more}
+use Rattle.reading.proofs.Rules.{NotAt, other, NoSecond, NoDigit, termBytes, Stop, broken, deep, Result, got, stopped, LabelReads, one-digit, two-digits, no-digit, StarsRead, one-more, no-more}
 use Rattle.reading.proofs.Rules.{PathReads, path, path-stops, PathGoesOn, bar, bar-stops, no-bar}
 use Rattle.reading.proofs.Rules.{SequenceReads, sequence, sequence-stops, SequenceGoesOn, slash, slash-stops, no-slash}
 use Rattle.reading.proofs.Rules.{ItemReads, item, item-stops, AtomReads, dot, letter-v, caret, greater, less, square, square-open, square-stops, square-deep, round, round-open, round-stops, round-deep, no-atom}
@@ -18,7 +17,7 @@ use Rattle.reading.proofs.Rules.{FilterReads, filter, filter-stops, Fil
 use Rattle.reading.proofs.Rules.{ConjunctionReads, conjunction, conjunction-stops, ConjunctionGoesOn, ampersand, ampersand-stops, no-ampersand}
 use Rattle.reading.proofs.Rules.{TermReads, exclamation, exclamation-stops, letter-t, letter-f, hash, hash-stops, curly, curly-open, curly-stops, curly-deep, a-path, a-path-stops}
 use Rattle.reading.proofs.Rules as rules
-use Rattle.reading.proofs.Next.{unequal, digit-opens-nothing}
+use Rattle.reading.proofs.NextByte.{unequal, digit-opens-nothing}
 use Rattle.reading.proofs.Machine as machine
 use Rattle.reading.proofs.Machine.{PathPlace, FilterPlace, in-round, in-filter, in-square, in-curly, State, label, Offers, nothing, on, digit, Digit, dec-digit, look, goes, offer, ons, bytes, atoms, terms, depth, path-depth, filter-depth, Moves, stays, moves}
 use Rattle.reading.proofs.Machine.{behind-filter, behind-conjunction, behind-term, behind-path, behind-sequence, behind-item}
@@ -39,10 +38,12 @@ skip : {c : ℕ} {these : List ℕ} {b : Bytes} (σ : State) (o : Offers) → No
 skip σ o rules.ended = refl
 skip σ o (other h) = rw (unequal (λ e. h (List·Memᴰ·head e)), look)
 
+-- of fewer bytes, none is next either
 not-at-rest : {c : ℕ} {these : List ℕ} {b : Bytes} → NotAt (c ∷ these) b → NotAt these b
 not-at-rest rules.ended = rules.ended
 not-at-rest (other h) = other (λ m. h (List·Memᴰ·tail m))
 
+-- all that are not next are passed over
 skip-all : {b : Bytes} (l : List (ℕ × State)) (o : Offers) → NotAt (bytes l) b → look (ons l o) b ≡ look o b
 skip-all [] o h = refl
 skip-all (x ∷ l) o h = skip (x .1) (ons l o) h ∙ skip-all l o (not-at-rest h)
@@ -76,21 +77,25 @@ digit-skipped {l} f o (none {c = c} {b = b} h) = go (dec-digit l c) refl
     go (yes y) q = absurd (h y)
     go (no n) q = rw (q, look)
 
+-- a byte that begins no label
 first-digit : {b : Bytes} → NoDigit b → NoDigitOf 0 b
 first-digit rules.ended = ended
 first-digit (rules.too-low {c = c} l) = none (λ (d : Digit 0 c). omega arith)
 first-digit (rules.too-high {c = c} l) = none (λ (d : Digit 0 c). omega arith)
 
+-- a byte that makes no label of two digits
 second-digit : {l : ℕ} {b : Bytes} → NoSecond l b → NoDigitOf l b
 second-digit rules.ended = ended
 second-digit {l} (rules.too-low {c = c} h) = none (λ (d : Digit l c). omega arith)
 second-digit {l} (rules.too-high {c = c} h) = none (λ (d : Digit l c). omega arith)
 second-digit {l} (rules.too-large {e = e} h m) = none (λ (d : Digit l (48 + e)). omega arith)
 
+-- no label has three digits
 third-digit : {l : ℕ} → 7 ≤ l → (b : Bytes) → NoDigitOf l b
 third-digit h [] = ended
 third-digit {l} h (c ∷ b) = none (λ (d : Digit l c). omega arith)
 
+-- a state takes what it offers
 here : {σ : State} {b : Bytes} → Here σ (offer σ) b
 here = record { now = refl; at-end = refl }
 
@@ -99,13 +104,16 @@ record Alike (σ τ : State) (b : Bytes) : Type 0 where
   takes : Here τ (offer σ) b
   depths : depth τ ≡ depth σ
 
+-- and so what is offered there
 taking : {σ τ : State} {o : Offers} {b : Bytes} → Alike σ τ b → Here σ o b → Here τ o b
 taking s h = record { now = s .takes .now ∙ h .now; at-end = s .takes .at-end ∙ h .at-end }
 
+-- without a byte that is not next
 passed : {τ σ : State} {c : ℕ} {o : Offers} {b : Bytes} → NotAt (c ∷ []) b → Here τ (on c σ o) b → Here τ o b
 passed {σ = σ} {o = o} h k = record { now = k .now ∙ skip σ o h; at-end = k .at-end }
 
 module _ {limit : ℕ} where
+  -- moves behind moves
   onwards : {σ τ ω : State} {b c d : Bytes} → Moves limit σ b τ c → Moves limit τ c ω d → Moves limit σ b ω d
   onwards stays y = y
   onwards (moves e l x) y = moves e l (onwards x y)
@@ -116,13 +124,13 @@ module _ {limit : ℕ} where
   instead {τ = τ} s e l y = moves {σ = τ} (s .takes .now ∙ e) (λ o. rw (s .depths) (l o)) y
 
   module _ {A : Type 0} {behind : A → Offers} where
-    -- what is got behind some moves
+    -- a result behind some moves
     moved : {σ τ : State} {b more : Bytes} {r : Result A} → Moves limit σ b τ more → Led limit τ more behind r → Led limit σ b behind r
     moved x (led y h) = led (onwards x y) h
     moved x (broke y h) = broke (onwards x y) h
     moved x (deepened y e o l) = deepened (onwards x y) e o l
 
-    -- a first byte, and then
+    -- a result behind one byte
     first : {σ τ : State} {c : ℕ} {b : Bytes} {r : Result A} → look (offer σ) (c ∷ b) ≡ goes τ → (T (opening c) → depth σ < limit) → Led limit τ b behind r → Led limit σ (c ∷ b) behind r
     first e l x = moved (moves e l stays) x
 
@@ -171,6 +179,7 @@ module _ {limit : ℕ} where
       let same = skip-all (terms o a F) (ons (atoms (λ p. p) (λ p. p) (in-filter o a F)) nothing) k in
       alike (record { takes = record { now = same; at-end = refl }; depths = refl }) x
 
+  -- Each kind of rule leads the machine from where its kind is wanted to where what is got stands read.
   mutual
     unfolding opening
 

@@ -1,5 +1,5 @@
 pub mod Rules
-pub mod Next
+pub mod NextByte
 pub mod Sound
 pub mod Deciding
 pub mod Follows
@@ -7,6 +7,7 @@ pub mod Machine
 pub mod Led
 pub mod Depth
 pub mod Place
+pub mod Determined
 pub mod Judged
 pub mod Unique
 pub mod Back

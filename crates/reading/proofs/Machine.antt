@@ -1,9 +1,9 @@
 -- A machine that goes through a text byte by byte and keeps what is open: what each of its states takes next. Assumes nothing.
-use Prim.Native.Nat.{ℕ, zero, suc, _+_, _-_, _*_, _≤_, _<_}
+use Prim.Native.Nat.{ℕ, suc, _+_, _-_, _*_, _≤_, _<_}
 use native.Mathlib.Decide.{decLe, map-dec}
-use mathlib.Core.Path.{_≡_, refl}
+use mathlib.Core.Path.{_≡_}
 use mathlib.Core.Logic.{Dec·and}
-use mathlib.Core.Bool.{Bool, true, false}
+use mathlib.Core.Bool.{true, false}
 use mathlib.Core.List.{List, [], _∷_}
 use lib.Dec.{T, eqb}
 use Rattle.reply.specs.Bytes.{Bytes}
@@ -24,7 +24,7 @@ mutual
     in-square : (Path → Path) → (Path → Path) → PathPlace → FilterPlace
     in-curly : (Filter → Filter) → (Filter → Filter) → FilterPlace → FilterPlace
 
--- What is expected, or what has been read.
+-- An item is wanted, or has been read; a term is wanted, or has been read as part of a conjunction; a label is wanted, or has been read so far.
 pub data State : Type 0 where
   item : (Path → Path) → (Path → Path) → PathPlace → State
   item-read : (Path → Path) → (Path → Path) → PathPlace → Path → State
@@ -47,6 +47,7 @@ pub record Digit (l c : ℕ) : Type 0 where
   pub some : 1 ≤ 10 * l + (c - 48)
   pub label : 10 * l + (c - 48) ≤ 64
 
+-- whether it is one
 unfoldable pub dec-digit : (l c : ℕ) → Dec (Digit l c)
 dec-digit l c =
     let value : ℕ = 10 * l + (c - 48) in
@@ -54,6 +55,7 @@ dec-digit l c =
     (λ d. (d .least, (d .most, (d .some, d .label))))
     (Dec·and (decLe 48 c) (Dec·and (decLe c 57) (Dec·and (decLe 1 value) (decLe value 64))))
 
+-- What a byte, or the end of the text, comes to.
 pub data Next : Type 0 where
   stuck : Next
   goes : State → Next
@@ -74,9 +76,11 @@ abbrev pub behind-filter : FilterPlace → Filter → Offers
 behind-filter (in-square e t P) f = on 93 (item-read e t P (stay f)) nothing
 behind-filter (in-curly o a F) f = on 125 (term-read o F (a f)) nothing
 
+-- or +, which wants another conjunction
 abbrev pub behind-conjunction : FilterPlace → Filter → Offers
 behind-conjunction F f = on 43 (term (λ g. or f g) (λ g. g) F) (behind-filter F f)
 
+-- or &, which wants another term
 abbrev pub behind-term : (Filter → Filter) → FilterPlace → Filter → Offers
 behind-term o F f = on 38 (term o (λ g. and f g) F) (behind-conjunction F (o f))
 
@@ -86,9 +90,11 @@ behind-path top p = ends p
 behind-path (in-round e t P) p = on 41 (item-read e t P p) nothing
 behind-path (in-filter o a F) p = behind-term o F (a (leads p))
 
+-- or |, which wants another sequence
 abbrev pub behind-sequence : PathPlace → Path → Offers
 behind-sequence P p = on 124 (item (λ q. either p q) (λ q. q) P) (behind-path P p)
 
+-- or /, which wants another item
 abbrev pub behind-item : (Path → Path) → PathPlace → Path → Offers
 behind-item e P p = on 47 (item e (λ q. then p q) P) (behind-sequence P (e p))
 
@@ -97,10 +103,12 @@ abbrev pub ons : List (ℕ × State) → Offers → Offers
 ons [] rest = rest
 ons (x ∷ more) rest = on (x .0) (x .1) (ons more rest)
 
+-- these bytes alone
 abbrev pub bytes : List (ℕ × State) → List ℕ
 bytes [] = []
 bytes (x ∷ more) = x .0 ∷ bytes more
 
+-- the atoms
 abbrev pub atoms : (Path → Path) → (Path → Path) → PathPlace → List (ℕ × State)
 atoms e t P =
     (46, item-read e t P self)
@@ -122,6 +130,7 @@ terms o a F =
     ∷ (123, term (λ f. f) (λ f. f) (in-curly o a F))
     ∷ []
 
+-- what a state offers
 abbrev pub offer : State → Offers
 offer (item e t P) = ons (atoms e t P) nothing
 offer (item-read e t P p) = on 42 (item-read e t P (star p)) (behind-item e P (t p))
@@ -130,7 +139,7 @@ offer (term-read o F f) = behind-term o F f
 offer (hash o a F) = digit 0 (λ l. label l o a F) nothing
 offer (label l o a F) = digit l (λ m. label m o a F) (behind-term o F (a (labelled l)))
 
--- how many brackets are open
+-- how many brackets are open at a place
 abbrev mutual
   pub path-depth : PathPlace → ℕ
   path-depth top = 0
@@ -141,6 +150,7 @@ abbrev mutual
   filter-depth (in-square e t P) = suc (path-depth P)
   filter-depth (in-curly o a F) = suc (filter-depth F)
 
+-- and in a state
 abbrev pub depth : State → ℕ
 depth (item e t P) = path-depth P
 depth (item-read e t P p) = path-depth P
@@ -148,6 +158,10 @@ depth (term o a F) = filter-depth F
 depth (term-read o F f) = filter-depth F
 depth (hash o a F) = filter-depth F
 depth (label l o a F) = filter-depth F
+
+-- where a text begins
+abbrev pub start : State
+start = item (λ p. p) (λ p. p) top
 
 -- From one state and unread text the machine comes to others, and opens no bracket while `limit` are open.
 pub data Moves (limit : ℕ) : State → Bytes → State → Bytes → Type 0 where

@@ -1,8 +1,7 @@
 -- The place of a text that breaks: where reading stops at a byte that the grammar does not take, no text begins so, and before it one does. Assumes nothing.
 use Prim.Native.Nat.{ℕ, suc, _+_, _-_, _≤_, _<_}
-use native.Mathlib.Nat.{le-refl}
 use native.Mathlib.Omega.{arith}
-use mathlib.Core.Path.{_≡_, refl, sym, ap, _∙_, subst}
+use mathlib.Core.Path.{_≡_, refl, sym, ap, _∙_}
 use mathlib.Core.Logic.{_⊎_, inl, inr}
 use mathlib.Core.List.{[], _∷_, _++_, append-assoc}
 use lib.ListN.{length, take, drop, length-append, take-append-drop}
@@ -11,28 +10,25 @@ use Rattle.reply.specs.Bytes.{Bytes}
 use Rattle.query.specs.Syntax.{Path}
 use Rattle.text.specs.Grammar.{PathText}
 use Rattle.text.specs.Promise.{Begins, Breaks}
-use Rattle.reading.proofs.Rules.{got, PathReads}
-use Rattle.reading.proofs.Follows.{text-read}
-use Rattle.reading.proofs.Machine.{top, State, item, Next, stuck, goes, finished, look, offer, behind-path, Moves, stays, moves}
-use Rattle.reading.proofs.Led.{Led, led, led-path}
-use Rattle.reading.proofs.Depth.{Front, look-ahead, passes}
-
-abbrev pub start : State
-start = item (λ p. p) (λ p. p) top
+use Rattle.reading.proofs.Machine.{State, start, Next, stuck, goes, finished, look, offer, Moves, stays, moves}
+use Rattle.reading.proofs.Depth.{look-ahead, passes, text-led}
 
 -- How far the machine goes: what it finds there, and the text left.
 data Halt : Type 0 where
   halts : Next → Bytes → Halt
 
+-- by what each state takes
 run : State → Bytes → Halt
 run σ [] = halts (look (offer σ) []) []
 run σ (c ∷ b) = elim (look (offer σ) (c ∷ b)) [ stuck ↦ halts stuck (c ∷ b) | goes τ ↦ run τ b | finished p ↦ halts (finished p) (c ∷ b) ]
 
+-- moves do not change where it halts
 run-moves : {limit : ℕ} {σ τ : State} {b more : Bytes} → Moves limit σ b τ more → run σ b ≡ run τ more
 unfolding run
 run-moves stays = refl
 run-moves (moves e l x) = rw (e, run) (run-moves x)
 
+-- a stuck state is a halt
 run-stuck : (σ : State) (b : Bytes) → look (offer σ) b ≡ stuck → run σ b ≡ halts stuck b
 unfolding run
 run-stuck σ [] e = rw e
@@ -41,12 +37,9 @@ run-stuck σ (c ∷ b) e = rw (e, run)
 -- the machine goes to the end of a text of the grammar, and finds its path
 text-runs : {s : Bytes} {p : Path} → PathText s p → run start s ≡ halts (finished p) []
 unfolding run
-text-runs {s} {p} x = go (led-path (text-read (length s) (le-refl (length s)) x) top refl)
-  where
-    go : Led (length s) start s (behind-path top) (got p []) → run start s ≡ halts (finished p) []
-    go (led y h) = run-moves y ∙ ap (λ (n : Next). halts n []) (h .now)
+text-runs x = let reached = text-led x in run-moves (reached .path) ∙ ap (λ (n : Next). halts n []) (reached .found)
 
--- "the grammar gives a text at most one path"
+-- the grammar gives a text at most one path
 pub path-unique : (text : Bytes) (p q : Path) → PathText text p → PathText text q → p ≡ q
 path-unique text p q x y =
     let e : halts (finished p) [] ≡ halts (finished q) [] = sym (text-runs x) ∙ text-runs y in

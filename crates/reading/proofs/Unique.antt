@@ -1,10 +1,10 @@
 -- A text has at most one fault, and none if it is a text of a path: two replies that fit call 2 are equal. Assumes nothing.
-use Prim.Native.Nat.{ℕ, suc, _≤_, _<_}
+use Prim.Native.Nat.{ℕ, _<_}
 use native.Mathlib.Omega.{arith}
 use mathlib.Core.Path.{_≡_, refl, sym, ap, _∙_, subst}
 use mathlib.Core.Logic.{⊎-elim}
 use mathlib.Core.List.{_++_}
-use lib.ListN.{length, take, drop}
+use lib.ListN.{length, drop}
 use Rattle.reply.specs.Reply.{Said}
 use Rattle.reply.specs.Bytes.{Bytes}
 use Rattle.reply.proofs.Unique.{OneFault, Wrong, outcome-one}
@@ -24,6 +24,7 @@ module _ (text : Bytes) where
   lowest : {i j : ℕ} → OneTooMany text i → ((k : ℕ) → k < j → ¬ OneTooMany text k) → ¬ (i < j)
   lowest {i} a b l = b i l a
 
+  -- a text has at most one fault
   pub text-one : OneFault (TextFault text)
   text-one n m p q (bad-length l) (bad-length l′) = (refl, refl)
   text-one n m p q (bad-length l) (breaks r b s) = absurd (l r)
@@ -42,6 +43,7 @@ module _ (text : Bytes) where
   text-one n m p q (too-large r x s f) (too-deep r′ o s′ b) = absurd (s q o)
   text-one n m p q (too-large r x s f) (too-large r′ x′ s′ f′) = (refl, refl)
 
+  -- a text with a fault is no text of a path
   pub text-wrong : Wrong ((p : Path) × TextOf p text) (TextFault text)
   text-wrong n i (bad-length l) (p, t) = l (t .length)
   text-wrong n i (breaks r b s) (p, t) = b .no-path p (t .path)
@@ -51,7 +53,7 @@ module _ (text : Bytes) where
   -- call 2 says one thing, and leaves one room
   pub text-read-one : (before : Bytes) {x y : Bytes} {s u : Said} → TextRead text before s x → TextRead text before u y → (s ≡ u) × (x ≡ y)
   unfolding TextRead
-  text-read-one before a b = outcome-one text-wrong text-one same a b
+  text-read-one before a b = outcome-one text-wrong text-one (λ right. same) a b
     where
       same : (p : Path) × TextOf p text → (c d : ℕ) (x y : Bytes) → TableGiven text before c x → TableGiven text before d y → (c ≡ d) × (x ≡ y)
       same right c d x y g h =

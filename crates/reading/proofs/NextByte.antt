@@ -1,4 +1,4 @@
--- The next byte of a text: it is none of some bytes. Assumes nothing.
+-- Bytes told apart: a byte is none of some others, and a digit is no bracket. Assumes nothing.
 use Prim.Native.Nat.{ℕ, _≤_}
 use native.Mathlib.Omega.{arith}
 use mathlib.Core.Path.{_≡_, refl}
@@ -8,13 +8,14 @@ use lib.Dec.{T, T-not, eqb, eqb→eq, eqb-refl}
 use mir.Facts.{and-yes}
 use Rattle.reply.specs.Bytes.{Bytes}
 use Rattle.text.specs.Promise.{opening, closing}
-use Rattle.reading.proofs.Rules.{NotAt, ended, other}
+use Rattle.reading.proofs.Rules.{NotAt, other}
 
 -- a test that a byte is none of these
 abbrev pub apart : ℕ → List ℕ → Bool
 apart c [] = true
 apart c (d ∷ these) = not (eqb c d) && apart c these
 
+-- a byte that passes the test is not among them
 pub absent : {c : ℕ} (these : List ℕ) → T (apart c these) → ¬ List·Memᴰ c these
 absent [] t m = List·Memᴰ·not-nil m
 absent {c} (d ∷ these) t (List·Memᴰ·head e) = T-not (eqb c d) (and-yes (not (eqb c d)) (apart c these) t .0) (rw e (eqb-refl d))
@@ -24,6 +25,7 @@ absent {c} (d ∷ these) t (List·Memᴰ·tail m) = absent these (and-yes (not (
 pub not-at : {c : ℕ} {b : Bytes} {these : List ℕ} → T (apart c these) → NotAt these (c ∷ b)
 not-at {these = these} t = other (absent these t)
 
+-- the test of equality fails on bytes that differ
 pub unequal : {c d : ℕ} → ¬ (c ≡ d) → eqb c d ≡ false
 unequal {c} {d} h = go (eqb c d) refl
   where
