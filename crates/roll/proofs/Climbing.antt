@@ -5,8 +5,9 @@ use native.Mathlib.Omega.{arith}
 use mathlib.Core.Path.{_≡_, sym, subst}
 use mathlib.Core.Logic.{_↔_, Iff·rfl, Iff·trans}
 use lib.Dec.{eqb}
-use Rattle.tree.specs.Tree.{Tree, parentAt, Above, here, up}
-use Rattle.tree.proofs.Order.{InOrderTo, above-trans, above-up, above-le-to, parent-smaller-to, above-linear-to}
+use Rattle.tree.specs.Tree.{Tree, parentAt, Child, Next, Above, here, up, InOrder}
+use Rattle.tree.proofs.Order.{InOrderTo, above-trans, above-up, above-le-to, parent-smaller-to, above-linear-to, above-le, child-node, child-before, no-gap}
+use Rattle.tree.proofs.Runs.{above-child, first-has-no-previous}
 use Rattle.tree.proofs.Tests.{Decides, equal-test, same-test}
 use Rattle.roll.specs.Roll.{none, ParentRule}
 
@@ -68,3 +69,31 @@ module _ (t : Tree) where
 
       pub far-test : {q at : ℕ} → q ≡ parentAt t at → p < before → Climbed before p at → Decides (eqb q p) (ParentRule t i)
       far-test {q} d l c = same-test (equal-test q p) (Iff·trans (subst (λ (x : ℕ). (x ≡ p) ↔ Above t p before) (sym d) (climb-decides before o l c)) later)
+
+module _ (t : Tree) (o : InOrder t) where
+  -- from the record before a record that is no first child, the climb towards its parent comes to its previous sibling
+  pub climb-previous : {p j before at : ℕ} → suc before ≡ j → Child t p j → p < before → Climbed t before p at → Next t at j
+  unfolding InOrder
+  climb-previous {p} {j} {before} {at} s c l climbed =
+      let (a, behind, stop) = climbed in
+      let n = c .node in
+      let low : at ≤ before = above-le t o (omega arith) a in
+      let to : InOrderTo t (suc before) = λ i h. o i (omega arith) in
+      record {
+        above = p;
+        left = record {
+          later = omega arith;
+          node = omega arith;
+          parent = climb-decides t before to l climbed .1 (child-before t o s c);
+        };
+        right = c;
+        order = omega arith;
+        between = λ m h g d.
+            let x : Above t at m = no-gap t o (omega arith) (omega arith) (omega arith) a in
+            let y : at ≤ p = above-le t o (child-node t o d) (above-child t o d x (omega arith)) in
+            omega arith;
+      }
+
+  -- the record right behind its parent has no previous sibling
+  pub first-of-all : {p j : ℕ} → suc p ≡ j → Child t p j → (i : ℕ) → ¬ Next t i j
+  first-of-all s c i n = first-has-no-previous t o (rw (← s) at c) i (rw (← s) at n)

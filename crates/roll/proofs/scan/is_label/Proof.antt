@@ -1,8 +1,8 @@
--- `roll::check::is_label` meets its contract: its two tests are the two bounds. Assumes nothing.
+-- `roll::scan::is_label` meets its contract: its two tests are the two bounds. Assumes nothing.
 use native.Mathlib.Omega.{arith}
 use lib.Dec.{leb→le, le→leb}
-use Rattle.roll.proofs.check.is_label.Statement.{statement}
-use Rattle.roll.proofs.check.is_label.Tie as tie
+use Rattle.roll.proofs.scan.is_label.Statement.{statement}
+use Rattle.roll.proofs.scan.is_label.Tie as tie
 
 returns : tie.Need-returns
 returns c = omega (arith, leb→le, le→leb)

@@ -1,4 +1,4 @@
-// Call 1: a table is checked, record by record.
+// Call 1: a table is checked in one scan over its records.
 use crate::climb::climb;
 use crate::node::count;
 use crate::node::label_at;

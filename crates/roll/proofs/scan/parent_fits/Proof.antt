@@ -1,4 +1,4 @@
--- `roll::check::parent_fits` meets its contract: the root's field is compared with its number, any other with the record before it or, where it is
+-- `roll::scan::parent_fits` meets its contract: the root's field is compared with its number, any other with the record before it or, where it is
 -- smaller, with the parent of what the climb comes to. Assumes nothing.
 use Prim.Native.Nat.{_-_}
 use native.Mathlib.Omega.{arith}
@@ -6,8 +6,8 @@ use borrow.Author.Needs.{needs}
 use denote.Ref.{now}
 use Rattle.roll.specs.Roll.{nodes}
 use Rattle.roll.proofs.Climbing.{root-test, near-test, far-test}
-use Rattle.roll.proofs.check.parent_fits.Statement.{statement}
-use Rattle.roll.proofs.check.parent_fits.Tie as tie
+use Rattle.roll.proofs.scan.parent_fits.Statement.{statement}
+use Rattle.roll.proofs.scan.parent_fits.Tie as tie
 
 parent-at-requires : tie.Need-parent-at-requires
 parent-at-requires c κs = search needs

@@ -1,4 +1,4 @@
--- `roll::check::check_roll` meets its contract. The loop's invariant: the records passed are right. The measure is the number of records that are
+-- `roll::scan::check_roll` meets its contract. The loop's invariant: the records passed are right. The measure is the number of records that are
 -- left. Assumes nothing.
 use Prim.Native.Nat.{ℕ, _-_, _≤_, _<_}
 use native.Mathlib.Omega.{arith}
@@ -8,8 +8,8 @@ use denote.Ref.{now}
 use Rattle.tree.proofs.Tests.{test-failed, test-passed}
 use Rattle.roll.specs.Roll.{NodeRight, RollLength}
 use Rattle.roll.proofs.Checking.{node-right, length-refused, refused-up, roll-counted}
-use Rattle.roll.proofs.check.check_roll.Statement.{statement}
-use Rattle.roll.proofs.check.check_roll.Tie as tie
+use Rattle.roll.proofs.scan.check_roll.Statement.{statement}
+use Rattle.roll.proofs.scan.check_roll.Tie as tie
 
 abbrev Inv-loop : tie.InvT-loop
 Inv-loop roll n i₀ i = (i ≤ n) × ((k : ℕ) → k < i → NodeRight roll k)

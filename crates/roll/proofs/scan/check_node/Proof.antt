@@ -1,4 +1,4 @@
--- `roll::check::check_node` meets its contract: each test is one part of a record that is right, and a refusal is the first part that fails.
+-- `roll::scan::check_node` meets its contract: each test is one part of a record that is right, and a refusal is the first part that fails.
 -- Assumes nothing.
 use mathlib.Core.Path.{_≡_, refl, sym, _∙_}
 use borrow.Author.Needs.{needs}
@@ -8,8 +8,8 @@ use Rattle.tree.specs.Tree.{Label, labelAt}
 use Rattle.tree.proofs.Tests.{test-failed, test-passed}
 use Rattle.roll.specs.Roll.{nodes, secondByte, label, second, parent}
 use Rattle.roll.proofs.Checking.{node-refused}
-use Rattle.roll.proofs.check.check_node.Statement.{statement}
-use Rattle.roll.proofs.check.check_node.Tie as tie
+use Rattle.roll.proofs.scan.check_node.Statement.{statement}
+use Rattle.roll.proofs.scan.check_node.Tie as tie
 
 label-at-requires : tie.Need-label-at-requires
 label-at-requires c κs = search needs
