@@ -7,7 +7,7 @@ use mathlib.Core.List.{_++_}
 use lib.ListN.{length, drop}
 use Rattle.reply.specs.Reply.{Said}
 use Rattle.reply.specs.Bytes.{Bytes}
-use Rattle.reply.proofs.Unique.{OneFault, Wrong, outcome-one}
+use Rattle.reply.proofs.Unique.{OneFault, Wrong, outcome-one, written-one}
 use Rattle.query.specs.Syntax.{Path}
 use Rattle.query.specs.Table.{entryBytes}
 use Rattle.text.specs.Written.{tableOf}
@@ -53,11 +53,11 @@ module _ (text : Bytes) where
   -- call 2 says one thing, and leaves one room
   pub text-read-one : (before : Bytes) {x y : Bytes} {s u : Said} → TextRead text before s x → TextRead text before u y → (s ≡ u) × (x ≡ y)
   unfolding TextRead
-  text-read-one before a b = outcome-one text-wrong text-one (λ right. same) a b
+  text-read-one before a b = outcome-one text-wrong text-one same a b
     where
       same : (p : Path) × TextOf p text → (c d : ℕ) (x y : Bytes) → TableGiven text before c x → TableGiven text before d y → (c ≡ d) × (x ≡ y)
       same right c d x y g h =
           let path : g .path ≡ h .path = path-unique text (g .path) (h .path) (g .text-of .path) (h .text-of .path) in
           let bytes : entryBytes (tableOf (g .path)) ≡ entryBytes (tableOf (h .path)) = ap (λ (p : Path). entryBytes (tableOf p)) path in
           let number : length (tableOf (g .path)) ≡ length (tableOf (h .path)) = ap (λ (p : Path). length (tableOf p)) path in
-          (g .count ∙ number ∙ sym (h .count), g .written .bytes ∙ ap (λ (f : Bytes). f ++ drop (length f) before) bytes ∙ sym (h .written .bytes))
+          (g .count ∙ number ∙ sym (h .count), written-one (g .written) (h .written) bytes)
