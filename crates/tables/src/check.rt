@@ -49,7 +49,7 @@ fn check_entries(table: &[u8], height: usize) -> Reply
 }
 
 // Whether the table is whole entries, and at most as many as given.
-fn whole(table: &[u8], entries: usize) -> bool
+pub fn whole(table: &[u8], entries: usize) -> bool
     requires { ⌜ entries ≤ 1024 ⌝ }
     ensures { λ r. ⌜ Decides r (Whole 6 entries (now (table .entry))) ⌝ }
 {
