@@ -19,7 +19,7 @@ use Rattle.reading.proofs.Sound.{Span, bracket, Heard, whole, begun, he
 use Rattle.reading.proofs.Machine.{top, State, start, depth, behind-path, Moves}
 use Rattle.reading.proofs.Led.{Here, Led, led, broke, deepened, led-path}
 use Rattle.reading.proofs.Depth.{passes}
-use Rattle.reading.proofs.Place.{begins, breaks}
+use Rattle.reading.proofs.Place.{path-unique, begins, breaks}
 
 -- What is true of a text that is read so.
 pub data Judged (text : Bytes) : Result Path → Type 0 where
@@ -82,3 +82,19 @@ module _ {text : Bytes} {p : Path} (length-right : TextLength text) where
   -- and otherwise its table is too large
   pub read-too-large : Judged text (got p []) → ¬ Fits (tableOf p) → TextFault text 16 0
   read-too-large (is-read x shallow) unfit = too-large length-right x shallow unfit
+
+-- a text of a path is read as that path, unless a bracket in it is one too many
+pub read-as : {text : Bytes} {p : Path} {r : Result Path} → TextLength text → PathText text p → ((k : ℕ) → ¬ OneTooMany text k) → PathReads 32 0 text r → r ≡ got p []
+read-as {text} {p} length-right x shallow y = go (judged length-right y)
+  where
+    unbroken : {i : ℕ} → ¬ TextFault text 14 i
+    unbroken (promise.breaks l b s) = b .no-path p x
+
+    undeep : {i : ℕ} → ¬ TextFault text 15 i
+    undeep (too-deep {i = i} l o s b) = shallow i o
+
+    go : {r : Result Path} → Judged text r → r ≡ got p []
+    go (is-read {p = q} z s) = ap (λ (o : Path). got o []) (path-unique text q p z x)
+    go (is-left-over f) = absurd (unbroken f)
+    go (is-broken f) = absurd (unbroken f)
+    go (is-deep f) = absurd (undeep f)
