@@ -1,8 +1,8 @@
 // Rolls: node tables read, checked, and cut into runs.
 mod climb;
-pub mod node;
-pub mod previous;
-pub mod run;
+mod node;
+mod previous;
+mod run;
 mod scan;
 
 pub use node::count;

@@ -7,12 +7,13 @@ use mathlib.Core.Logic.{_↔_}
 use mathlib.Core.Option.{Option, none, some}
 use lib.ListN.{length, getD}
 use Rattle.reply.specs.Bytes.{Bytes, two}
-use Rattle.query.specs.Kind.{Sort, path, filter, Row}
+use Rattle.query.specs.Kind.{Sort, path, filter, Operand, Row, rowOf}
+use Rattle.query.specs.Table as table
 use Rattle.query.specs.Table.{Entries, entries, entryAt, rowAt, HasSort}
 use Rattle.query.proofs.Tables.{entries-length, entryFrom, entry-bytes, no-entry}
 use Rattle.tables.specs.declared.entry.Entry.{Entry}
 use Rattle.tables.specs.Fields.{Fields}
-use Rattle.tables.specs.Shape.{sortNumber, sortOf}
+use Rattle.tables.specs.Shape.{sortNumber, OfOperand, sortOf}
 
 module _ (b : Bytes) (i : ℕ) where
   -- the six bytes from 6 i on are entry i
@@ -28,11 +29,23 @@ module _ (b : Bytes) (i : ℕ) where
   pub fields-none : length b / 6 ≤ i → Fields (entryAt (entries b) i) (record { kind = 0; label = 0; left = 0; right = 0 })
   fields-none l = rw (no-entry b i (omega (arith, entries-length b))) (record { kind = refl; label = refl; left = refl; right = refl })
 
-sort-some : (s : Sort) → 0 < sortNumber s
+-- What was read of an entry, said of the entry.
+module _ {e : table.Entry} {read : Entry} (fields : Fields e read) where
+  -- the row of its kind
+  pub row-read : rowOf (read .kind) ≡ rowOf (e .kind)
+  row-read = ap rowOf (fields .kind)
+
+  -- what holds of an operand, in the column of the list of kinds that it has
+  pub operand-read : {number x y : ℕ} (P : Operand → ℕ → Type 0) (column : Option Row → ℕ) → number ≡ column (rowOf (read .kind)) → x ≡ y
+      → OfOperand (λ o. P o x) number → OfOperand (λ o. P o y) (column (rowOf (e .kind)))
+  operand-read P column n same holds o m = subst (P o) same (holds o (m ∙ sym (n ∙ ap column row-read)))
+
+-- a sort has a number above 0
+pub sort-some : (s : Sort) → 0 < sortNumber s
 sort-some path = omega arith
 sort-some filter = omega arith
 
--- a sort's number is its own
+-- two sorts with one number are one
 pub sort-one : (s u : Sort) → sortNumber s ≡ sortNumber u → s ≡ u
 sort-one path path e = refl
 sort-one path filter e = absurd (omega arith)

@@ -14,6 +14,10 @@ abbrev pub operandNumber : Operand → ℕ
 operandNumber unused = 0
 operandNumber (of s) = sortNumber s
 
+-- what holds of whichever operand has the number
+abbrev pub OfOperand : (Operand → Type 0) → ℕ → Type 0
+OfOperand P number = (o : Operand) → operandNumber o ≡ number → P o
+
 -- Of the row of a kind, if there is one: its sort, its left and right operand, and whether it uses its label.
 abbrev pub sortOf : Option Row → ℕ
 sortOf none = 0

@@ -9,7 +9,7 @@ use Rattle.tree.specs.Tree.{Child}
 use Rattle.tree.proofs.Order.{child-less}
 use Rattle.roll.specs.Roll.{nodes}
 use Rattle.roll.proofs.Deciding.{roll-in-order}
-use Rattle.roll.proofs.Climbing.{climb-previous, first-of-all}
+use Rattle.roll.proofs.Climbing.{climb-previous, behind-parent-first}
 use Rattle.roll.proofs.previous.previous_of.Statement.{statement}
 use Rattle.roll.proofs.previous.previous_of.Tie as tie
 
@@ -35,7 +35,7 @@ child c = record { later = omega arith; node = omega arith; parent = sym (c .par
 returns-3 : tie.Need-returns-3
 returns-3 c =
     let s = c .before .before .before .before .before .before in
-    first-of-all (nodes (now (s .args .roll))) (roll-in-order (s .pre)) (omega arith) (child (c .before))
+    behind-parent-first (nodes (now (s .args .roll))) (roll-in-order (s .pre)) (omega arith) (child (c .before))
 
 -- past the third, its parent comes before the record before it
 apart : (c : tie.Else3) → c .before .parent-at .result < c .before .before .before .before .before .before .args .j - 1

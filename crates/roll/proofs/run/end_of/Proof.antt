@@ -33,7 +33,9 @@ parent-at-requires c κs = search needs
 
 -- a record that has been come to ends the run if its parent comes before k, or if it is behind the last one
 ends : (c : tie.At-loop Inv-loop μ-loop)
-    → let a = c .before .before .before .args in let t = nodes (now (a .roll)) in (c .loop .j < length t → parentAt t (c .loop .j) < a .k) → RunEnds t (a .k) (c .loop .j)
+    → let a = c .before .before .before .args in
+    let t = nodes (now (a .roll)) in
+    (c .loop .j < length t → parentAt t (c .loop .j) < a .k) → RunEnds t (a .k) (c .loop .j)
 ends c stop =
     let s = c .before .before .before in
     let (low, high, inside) = c .loop .inv in

@@ -35,7 +35,9 @@ slice-aggregate-result-2 : tie.Need-slice-aggregate-result-2
 slice-aggregate-result-2 c = search needs
 
 -- a table that is not refused is a roll of as many nodes as it is said to have
-counted : (c : tie.After-known-told) → let b = now (c .before .before .before .before .before .args .roll) in Roll b × (c .before .reply .given .0 .0 ≡ length (nodes b))
+counted : (c : tie.After-known-told)
+    → let b = now (c .before .before .before .before .before .args .roll) in
+    Roll b × (c .before .reply .given .0 .0 ≡ length (nodes b))
 counted c =
     let checked = c .before .before .before in
     roll-right (now (checked .before .before .args .roll)) (c .before .reply .given .1) (checked .check-roll .ensures)
@@ -54,7 +56,9 @@ end-of-requires : tie.Need-end-of-requires
 end-of-requires c κs = (counted (c .before) .0, within c)
 
 -- the bytes of the run lie in the table
-inside : (c : tie.After-end-of) → let a = c .before .before .before .before .before .before .before .args in (4 * a .k ≤ 4 * c .end-of .result) × (4 * c .end-of .result ≤ length (now (a .roll)))
+inside : (c : tie.After-end-of)
+    → let a = c .before .before .before .before .before .before .before .args in
+    (4 * a .k ≤ 4 * c .end-of .result) × (4 * c .end-of .result ≤ length (now (a .roll)))
 inside c = run-inside (counted (c .before .before) .0) (within (c .before)) (c .end-of .ensures)
 
 mul-end : tie.Need-mul-end

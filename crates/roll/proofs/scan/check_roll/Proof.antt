@@ -2,7 +2,7 @@
 -- left. Assumes nothing.
 use Prim.Native.Nat.{ℕ, _-_, _≤_, _<_}
 use native.Mathlib.Omega.{arith}
-use borrow.Author.Count.{below-none, below-more}
+use borrow.Author.Count.{below-more}
 use borrow.Author.Needs.{needs}
 use denote.Ref.{now}
 use Rattle.tree.proofs.Tests.{test-failed, test-passed}
@@ -69,7 +69,8 @@ loop-again c =
 returns-3 : tie.Need-returns-3 Inv-loop μ-loop
 returns-3 c =
     let counted = c .before .before in
-    roll-counted (now (counted .before .before .before .before .args .roll)) (size (counted .before)) (counted .count .ensures) (λ k l. c .before .loop .inv .1 k (omega arith))
+    let right = c .before .loop .inv .1 in
+    roll-counted (now (counted .before .before .before .before .args .roll)) (size (counted .before)) (counted .count .ensures) (λ k l. right k (omega arith))
 
 pub check-roll-spec : {M : Type 1} → statement M
 check-roll-spec =
