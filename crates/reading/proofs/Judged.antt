@@ -19,14 +19,14 @@ use Rattle.reading.proofs.Sound.{Span, bracket, Heard, whole, begun, he
 use Rattle.reading.proofs.Machine.{top, State, start, depth, behind-path, Moves}
 use Rattle.reading.proofs.Led.{Here, Led, led, broke, deepened, led-path}
 use Rattle.reading.proofs.Depth.{passes}
-use Rattle.reading.proofs.Place.{begins, breaks}
+use Rattle.reading.proofs.Place.{path-unique, begins, breaks}
 
 -- What is true of a text that is read so.
 pub data Judged (text : Bytes) : Result Path → Type 0 where
-  is-read : {p : Path} → PathText text p → ((k : ℕ) → ¬ OneTooMany text k) → Judged text (got p [])
-  is-left-over : {p : Path} {c : ℕ} {more : Bytes} → TextFault text 14 (length text - suc (length more)) → Judged text (got p (c ∷ more))
-  is-broken : {more : Bytes} → TextFault text 14 (length text - length more) → Judged text (stopped rules.broken more)
-  is-deep : {more : Bytes} → TextFault text 15 (length text - length more) → Judged text (stopped rules.deep more)
+  read : {p : Path} → PathText text p → ((k : ℕ) → ¬ OneTooMany text k) → Judged text (got p [])
+  not-whole : {p : Path} {c : ℕ} {more : Bytes} → TextFault text 14 (length text - suc (length more)) → Judged text (got p (c ∷ more))
+  broken : {more : Bytes} → TextFault text 14 (length text - length more) → Judged text (stopped rules.broken more)
+  deep : {more : Bytes} → TextFault text 15 (length text - length more) → Judged text (stopped rules.deep more)
 
 module _ {text : Bytes} {τ : State} where
   -- no bracket that the machine has passed over is one too many
@@ -66,19 +66,35 @@ pub judged : {text : Bytes} {r : Result Path} → TextLength text → PathReads 
 judged {text} length-right x = go (heard-path x) (led-path x top refl)
   where
     got-some : {p : Path} {τ : State} (more : Bytes) → Span PathText text p more → Moves 32 start text τ more → Here τ (behind-path top p) more → Judged text (got p more)
-    got-some {p} [] v m h = is-read {p = p} (rw (v .splits, append-nil) (v .text)) (λ k o. let l : k < length text = o .within in none-before m k (omega arith) o)
-    got-some {p} (c ∷ more) v m h = is-left-over (promise.breaks length-right (breaks {p = p} (v .front) [] m (h .now) (v .splits) (rw append-nil (v .text))) (none-before m))
+    got-some {p} [] v m h = read {p = p} (rw (v .splits, append-nil) (v .text)) (λ k o. let l : k < length text = o .within in none-before m k (omega arith) o)
+    got-some {p} (c ∷ more) v m h = not-whole (promise.breaks length-right (breaks {p = p} (v .front) [] m (h .now) (v .splits) (rw append-nil (v .text))) (none-before m))
 
     go : {r : Result Path} → Heard PathText text r → Led 32 start text (behind-path top) r → Judged text r
     go (whole v) (led {more = more} m h) = got-some more v m h
-    go (begun u t e w a) (broke m h) = is-broken (promise.breaks length-right (breaks u t m (h .now) e w) (none-before m))
-    go (begun u t e w (bracket {c = c} {more = more} {t = t′})) (deepened m g o l) = is-deep (too-deep length-right (one-too-many m o l) (none-before m) (not-broken u c t′ more e w))
+    go (begun u t e w a) (broke m h) = broken (promise.breaks length-right (breaks u t m (h .now) e w) (none-before m))
+    go (begun u t e w (bracket {c = c} {more = more} {t = t′})) (deepened m g o l) = deep (too-deep length-right (one-too-many m o l) (none-before m) (not-broken u c t′ more e w))
 
 module _ {text : Bytes} {p : Path} (length-right : TextLength text) where
   -- a text that is read whole is one of its path, if its table fits
   pub read-whole : Judged text (got p []) → Fits (tableOf p) → TextOf p text
-  read-whole (is-read x shallow) fits = record { length = length-right; path = x; shallow = shallow; fits = fits }
+  read-whole (read x shallow) fits = record { length = length-right; path = x; shallow = shallow; fits = fits }
 
   -- and otherwise its table is too large
   pub read-too-large : Judged text (got p []) → ¬ Fits (tableOf p) → TextFault text 16 0
-  read-too-large (is-read x shallow) unfit = too-large length-right x shallow unfit
+  read-too-large (read x shallow) unfit = too-large length-right x shallow unfit
+
+-- a text of a path is read as that path, unless a bracket in it is one too many
+pub read-as : {text : Bytes} {p : Path} {r : Result Path} → TextLength text → PathText text p → ((k : ℕ) → ¬ OneTooMany text k) → PathReads 32 0 text r → r ≡ got p []
+read-as {text} {p} length-right x shallow y = go (judged length-right y)
+  where
+    unbroken : {i : ℕ} → ¬ TextFault text 14 i
+    unbroken (promise.breaks l b s) = b .no-path p x
+
+    undeep : {i : ℕ} → ¬ TextFault text 15 i
+    undeep (too-deep {i = i} l o s b) = shallow i o
+
+    go : {r : Result Path} → Judged text r → r ≡ got p []
+    go (read {p = q} z s) = ap (λ (o : Path). got o []) (path-unique text q p z x)
+    go (not-whole f) = absurd (unbroken f)
+    go (broken f) = absurd (unbroken f)
+    go (deep f) = absurd (undeep f)

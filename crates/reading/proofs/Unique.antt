@@ -55,8 +55,8 @@ module _ (text : Bytes) where
   unfolding TextRead
   text-read-one before a b = outcome-one text-wrong text-one same a b
     where
-      same : (p : Path) × TextOf p text → (c d : ℕ) (x y : Bytes) → TableGiven text before c x → TableGiven text before d y → (c ≡ d) × (x ≡ y)
-      same right c d x y g h =
+      same : (c d : ℕ) (x y : Bytes) → TableGiven text before c x → TableGiven text before d y → (c ≡ d) × (x ≡ y)
+      same c d x y g h =
           let path : g .path ≡ h .path = path-unique text (g .path) (h .path) (g .text-of .path) (h .text-of .path) in
           let bytes : entryBytes (tableOf (g .path)) ≡ entryBytes (tableOf (h .path)) = ap (λ (p : Path). entryBytes (tableOf p)) path in
           let number : length (tableOf (g .path)) ≡ length (tableOf (h .path)) = ap (λ (p : Path). length (tableOf p)) path in
