@@ -25,7 +25,7 @@ use Rattle.text.specs.Promise.{TextLength, TextFault}
 use Rattle.reading.proofs.Rules.{Result, got, stopped, broken, deep, PathReads}
 use Rattle.reading.proofs.Deciding as reading
 use Rattle.reading.proofs.Deciding.{Reading, no-steps, readText}
-use Rattle.reading.proofs.Judged.{Judged, is-read, is-left-over, is-broken, is-deep, judged, read-whole}
+use Rattle.reading.proofs.Judged.{Judged, read, not-whole, judged, read-whole}
 use Rattle.view.specs.Annotation.{Rule, records, rules}
 use Rattle.view.specs.Visible.{Visible, root}
 use Rattle.view.specs.View.{View}
@@ -162,10 +162,10 @@ answers t o some text ks (stopped s more) d h = absurd h
 -- a text that reads so is refused so
 refusal : (text : Bytes) (n i : ℕ) {r : Result Path} → Judged text r → T (refusedBy text n i r) → TextFault text n i
 unfolding refusedBy
-refusal text n i (is-read x s) h = absurd h
-refusal text n i (is-left-over f) h = is-fault text n i _ _ h f
-refusal text n i (is-broken f) h = is-fault text n i _ _ h f
-refusal text n i (is-deep f) h = is-fault text n i _ _ h f
+refusal text n i (read x s) h = absurd h
+refusal text n i (not-whole f) h = is-fault text n i _ _ h f
+refusal text n i (Judged.broken f) h = is-fault text n i _ _ h f
+refusal text n i (Judged.deep f) h = is-fault text n i _ _ h f
 
 -- what is computed of a case is what it says
 computes-right : (c : Case) → T (computes c) → Holds c

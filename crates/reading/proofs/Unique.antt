@@ -53,7 +53,7 @@ module _ (text : Bytes) where
   -- call 2 says one thing, and leaves one room
   pub text-read-one : (before : Bytes) {x y : Bytes} {s u : Said} → TextRead text before s x → TextRead text before u y → (s ≡ u) × (x ≡ y)
   unfolding TextRead
-  text-read-one before a b = outcome-one text-wrong text-one same a b
+  text-read-one before a b = outcome-one text-wrong text-one (λ right. same) a b
     where
       same : (c d : ℕ) (x y : Bytes) → TableGiven text before c x → TableGiven text before d y → (c ≡ d) × (x ≡ y)
       same c d x y g h =
