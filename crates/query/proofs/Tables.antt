@@ -74,6 +74,7 @@ module _ {A : Type 0} (read : List A → Entry → A) where
       ∙ ap (take (length before)) (read-before next more)
       ∙ take-append-seam before (read before e ∷ [])
 
+  -- so it keeps each result
   pub read-keeps : (before : List A) (es : Entries) (i : ℕ) (d : A) → i < length before → getD (readOn read before es) i d ≡ getD before i d
   read-keeps before es i d l =
       sym (getD-take (length before) (readOn read before es) i d l) ∙ ap (λ (results : List A). getD results i d) (read-before before es)

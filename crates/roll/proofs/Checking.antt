@@ -5,12 +5,13 @@ use lib.ListN.{length}
 use Rattle.reply.specs.declared.Refusal.{Refusal}
 use Rattle.reply.specs.declared.Reply.{Reply}
 use Rattle.reply.specs.declared.Reply.the-variants.{Count, Refused}
-use Rattle.reply.specs.Reply.{Said, count, refused, said}
+use Rattle.reply.specs.Reply.{number, Said, count, refused, said}
 use Rattle.reply.specs.Bytes.{Bytes}
 use Rattle.reply.specs.Outcome.{Lowest, Checked}
 use Rattle.reply.proofs.Checking.{passes, fails, counted, faulted}
-use Rattle.roll.specs.Roll.{nodes, NodeRight, NodeFault, RollLength, bad-length, bad-node}
+use Rattle.roll.specs.Roll.{nodes, NodeRight, NodeFault, RollLength, Roll, bad-length, bad-node}
 use Rattle.roll.specs.Promise.{RollChecked}
+use Rattle.roll.proofs.Unique.{roll-wrong}
 
 module _ (b : Bytes) where
   -- what the check of record i says
@@ -18,7 +19,8 @@ module _ (b : Bytes) where
   NodeChecked i said = Checked (NodeRight b i) (Lowest (NodeRight b) (NodeFault b) (length (nodes b))) 1 said
 
   -- a fault of a record is refused, where the records before it are right
-  pub node-refused : {i n : ℕ} {s : Said} → i < length (nodes b) → ((k : ℕ) → k < i → NodeRight b k) → s ≡ refused n i → NodeFault b n i → NodeChecked i s
+  pub node-refused : {i n : ℕ} {s : Said} → i < length (nodes b) → ((k : ℕ) → k < i → NodeRight b k) → s ≡ refused n i
+      → NodeFault b n i → NodeChecked i s
   node-refused within before e f = rw e (fails (record { within = within; faulty = f; lowest = before }))
 
   -- a record that is not refused is right
@@ -40,3 +42,13 @@ module _ (b : Bytes) where
     pub roll-counted : {n : ℕ} → n ≡ length (nodes b) → ((k : ℕ) → k < n → NodeRight b k) → RollChecked b (count n)
     unfolding RollChecked
     roll-counted e right = passes (record { size = size; node = λ i l. right i (rw e l) }) e
+
+  -- what the reply of the check tells a caller: the table is a roll of so many nodes, or
+  pub roll-right : {n : ℕ} {r : Reply} → r ≡ Count n → RollChecked b (said r) → Roll b × (n ≡ length (nodes b))
+  unfolding RollChecked
+  roll-right e h = counted (rw e at h)
+
+  -- it is none
+  pub not-roll : {r : Reply} {x : Refusal} → r ≡ Refused x → RollChecked b (said r) → ¬ Roll b
+  unfolding RollChecked
+  not-roll {x = x} e h = roll-wrong b (number (x .reason)) (x .place) (faulted (rw e at h))

@@ -3,3 +3,4 @@ pub mod Unique
 pub mod Records
 pub mod Climbing
 pub mod Checking
+pub mod Parts

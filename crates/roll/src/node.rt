@@ -1,10 +1,9 @@
 // Node records, read from the bytes of a table.
 ghost use mathlib.Core.Path.{_≡_};
-ghost use Prim.Native.Nat.{_<_};
 ghost use lib.ListN.{length};
 ghost use Rattle.reply.specs.Bytes.{two};
 ghost use Rattle.tree.specs.Tree.{labelAt, parentAt};
-ghost use Rattle.roll.specs.Roll.{nodes, secondByte};
+ghost use Rattle.roll.specs.Roll.{nodes};
 
 // A byte as a number.
 fn wide(x: u8) -> usize
@@ -46,12 +45,4 @@ pub fn parent_at(roll: &[u8], i: usize) -> usize
     }
     let at = 4 * i;
     two_bytes(roll[at + 2], roll[at + 3])
-}
-
-// The second byte of record i.
-pub(crate) fn second_at(roll: &[u8], i: usize) -> usize
-    requires { ⌜ i < length (nodes (now roll)) ⌝ }
-    ensures { λ r. ⌜ r ≡ secondByte (now (roll .entry)) i ⌝ }
-{
-    wide(roll[4 * i + 1])
 }

@@ -1,8 +1,7 @@
 -- The tests of an entry's fields decide whether the entry is in order. Assumes nothing.
-use Prim.Native.Nat.{ℕ, _*_, _%_, _≤_, _<_}
+use Prim.Native.Nat.{ℕ, _*_, _%_, _≤_}
 use native.Mathlib.Omega.{arith}
 use mathlib.Core.Path.{_≡_, refl, sym, ap, _∙_, subst, subst₂}
-use mathlib.Core.Logic.{_↔_}
 use mathlib.Core.Bool.{Bool, true, false, not, _&&_}
 use mathlib.Core.Option.{Option, none, some}
 use lib.Dec.{leb, ltb, eqb, leb→le, le→leb}
@@ -18,6 +17,7 @@ use Rattle.tables.specs.Fields.{Fields}
 use Rattle.tables.specs.Shape.{operandNumber, OfOperand, sortOf, leftOf, rightOf, labelOf}
 use Rattle.tables.proofs.Entries.{row-read, operand-read, sort-some, sort-at}
 
+-- a test of an order
 pub at-most-test : (m n : ℕ) → Decides (leb m n) (m ≤ n)
 at-most-test m n = record { exact = (leb→le m n, le→leb m n) }
 

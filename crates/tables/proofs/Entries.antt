@@ -29,11 +29,13 @@ module _ (b : Bytes) (i : ℕ) where
   pub fields-none : length b / 6 ≤ i → Fields (entryAt (entries b) i) (record { kind = 0; label = 0; left = 0; right = 0 })
   fields-none l = rw (no-entry b i (omega (arith, entries-length b))) (record { kind = refl; label = refl; left = refl; right = refl })
 
--- What is read of an entry's kind and operands is said of the entry.
+-- What was read of an entry, said of the entry.
 module _ {e : table.Entry} {read : Entry} (fields : Fields e read) where
+  -- the row of its kind
   pub row-read : rowOf (read .kind) ≡ rowOf (e .kind)
   row-read = ap rowOf (fields .kind)
 
+  -- what holds of an operand, in the column of the list of kinds that it has
   pub operand-read : {number x y : ℕ} (P : Operand → ℕ → Type 0) (column : Option Row → ℕ) → number ≡ column (rowOf (read .kind)) → x ≡ y
       → OfOperand (λ o. P o x) number → OfOperand (λ o. P o y) (column (rowOf (e .kind)))
   operand-read P column n same holds o m = subst (P o) same (holds o (m ∙ sym (n ∙ ap column row-read)))

@@ -1,8 +1,8 @@
 -- The height that the code finds for an entry is the entry's height. Assumes nothing.
-use Prim.Native.Nat.{ℕ, suc, _+_, _≤_, _<_, max}
+use Prim.Native.Nat.{ℕ, suc, _+_, _<_, max}
 use native.Mathlib.Numerals.{add-one}
 use native.Mathlib.Omega.{arith}
-use mathlib.Core.Path.{_≡_, refl, sym, ap, ap₂, _∙_, subst}
+use mathlib.Core.Path.{_≡_, refl, sym, ap₂, _∙_}
 use mathlib.Core.List.{List, []}
 use mathlib.Core.Option.{Option, none, some}
 use lib.ListN.{length, getD, take}
@@ -35,6 +35,7 @@ module _ (heights : List ℕ) where
   unfolding height
   listed-height e row same = rw (same, height) refl
 
+  -- the height of any entry, listed or not
   by-row : {l r : ℕ} (e : table.Entry) (row : Option Row) → rowOf (e .kind) ≡ row → OfOperand (λ o. l ≡ operandHeight heights o (e .left)) (leftOf row)
       → OfOperand (λ o. r ≡ operandHeight heights o (e .right)) (rightOf row)
       → suc (max l r) ≡ height heights e

@@ -4,10 +4,10 @@ use Prim.Native.Nat.{ℕ, zero, suc, _+_, _≤_, _<_}
 use native.Mathlib.Omega.{arith}
 use mathlib.Core.Path.{_≡_, refl, sym, ap, _∙_, subst}
 use mathlib.Core.List.{List, [], _∷_}
-use mathlib.Core.Option.{Option, none, some}
+use mathlib.Core.Option.{Option, none}
 use mathlib.Core.Bool.{Bool, true, false, _&&_}
-use lib.Dec.{T, eqb, ltb, ltb→lt}
-use lib.ListN.{length, getD}
+use lib.Dec.{T, ltb, ltb→lt}
+use lib.ListN.{getD}
 use mir.Facts.{and-yes}
 use borrow.Author.Tests.{ne-eqb}
 use Rattle.query.specs.Kind.{Row, kinds, find, rowOf}
@@ -19,6 +19,7 @@ unfoldable pub valuesFrom : {A : Type 0} → (ℕ → A) → ℕ → ℕ → Lis
 valuesFrom f i zero = []
 valuesFrom f i (suc n) = f i ∷ valuesFrom f (suc i) n
 
+-- each value stands at its place
 values-at : {A : Type 0} (f : ℕ → A) (d : A) (i n k : ℕ) → k < n → getD (valuesFrom f i n) k d ≡ f (i + k)
 unfolding valuesFrom
 values-at f d i zero k l = absurd (omega arith)
@@ -29,9 +30,16 @@ values-at f d i (suc n) (suc k) l = values-at f d (suc i) n k (omega arith) ∙ 
 unfoldable pub shapeOf : ℕ → Shape
 shapeOf kind = (sortOf (rowOf kind), leftOf (rowOf kind), rightOf (rowOf kind), labelOf (rowOf kind))
 
+-- an equation of shapes, field by field
 shaped : (kind : ℕ) (shape : Shape) → shape ≡ shapeOf kind → Shaped (rowOf kind) shape
 unfolding shapeOf
-shaped kind shape e = record { sort = ap (λ (s : Shape). s .0) e; left = ap (λ (s : Shape). s .1) e; right = ap (λ (s : Shape). s .2) e; label = ap (λ (s : Shape). s .3) e }
+shaped kind shape e =
+    record {
+      sort = ap (λ (s : Shape). s .0) e;
+      left = ap (λ (s : Shape). s .1) e;
+      right = ap (λ (s : Shape). s .2) e;
+      label = ap (λ (s : Shape). s .3) e;
+    }
 
 -- a table that has the shape of every kind below 23 is right at each of them
 pub table-right : (shapes : List Shape) (d : Shape) → shapes ≡ valuesFrom shapeOf 0 23 → (kind : ℕ) → kind < 23 → Shaped (rowOf kind) (getD shapes kind d)

@@ -32,6 +32,7 @@ module _ {limit : Limits} {b : Bytes} (size : QueryLength limit b) (reply : Repl
   query-entry r e = rw e (fails (QueryFault.bad-entry size (faulted (subst (λ (x : Reply). EntriesChecked limit b (said x)) e walked))))
 
   module _ (n : ℕ) (e : reply ≡ Count n) where
+    -- every entry fits, and the count is the number of entries
     all-fit : ((i : ℕ) → i < length (entries b) → EntryFits limit b i) × (n ≡ length (entries b))
     all-fit = counted (subst (λ (x : Reply). EntriesChecked limit b (said x)) e walked)
 
@@ -39,6 +40,7 @@ module _ {limit : Limits} {b : Bytes} (size : QueryLength limit b) (reply : Repl
     pub query-some : 1 ≤ n
     query-some = omega (arith, all-fit .1, entries-length b, size .some, size .size .multiple)
 
+    -- the place of the last entry
     here : n - 1 ≡ last limit b
     unfolding last
     here = ap (λ (m : ℕ). m - 1) (all-fit .1)

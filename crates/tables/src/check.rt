@@ -6,12 +6,13 @@ ghost use Rattle.reply.specs.Reply.{said};
 ghost use Rattle.reply.specs.Bytes.{Whole};
 ghost use Rattle.tree.proofs.Tests.{Decides};
 ghost use Rattle.query.specs.Table.{entries as entriesOf};
-ghost use Rattle.query.specs.Fault.{Limits, QueryLength};
+ghost use Rattle.query.specs.Fault.{Limits};
 ghost use Rattle.tables.specs.Promise.{EntriesChecked, QueryChecked, FilterChecked};
 use crate::entry::count;
 use crate::entry::sort_at;
 use crate::height::height_below;
 use crate::kinds::PATH;
+use crate::limits::ANSWER_ENTRIES;
 use crate::limits::FILTER_ENTRIES;
 use crate::limits::FILTER_HEIGHT;
 use crate::order::entry_right;
@@ -25,7 +26,7 @@ fn check_entries(table: &[u8], height: usize) -> Reply
     ensures { λ r. ⌜ ((limit : Limits) → limit .height ≡ height → EntriesChecked limit (now (table .entry)) (said r)) ⌝ }
 {
     let n = count(table);
-    let mut heights = [0usize; 1024];
+    let mut heights = [0usize; ANSWER_ENTRIES];
     let mut i = 0;
     while i < n {
         if !entry_right(table, i) {

@@ -11,7 +11,7 @@ pub const PATH: usize = 1;
 pub const FILTER: usize = 2;
 
 // A kind's sort, the sorts of its left and right operand, and whether it uses its label.
-pub struct Shape(pub usize, pub usize, pub usize, pub bool);
+struct Shape(usize, usize, usize, bool);
 
 const KINDS: [Shape; 23] = [
     Shape(NONE, NONE, NONE, false), // 0: no kind

@@ -5,3 +5,6 @@ pub mod height;
 pub mod kinds;
 pub mod limits;
 pub mod order;
+
+pub use check::check_filters;
+pub use check::check_query;

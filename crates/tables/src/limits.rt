@@ -1,4 +1,4 @@
-// How many entries a table may have, and how high an entry may be.
+// How many entries a table may have, and how high an entry may be: the curator's query, the filter table, and the query answered on a roll.
 pub const CURATOR_ENTRIES: usize = 256;
 
 pub const CURATOR_HEIGHT: usize = 32;

@@ -52,10 +52,11 @@ pub decided : {b : Bool} {A : Type 0} → Decides b A → Dec A
 decided {b = true} test = yes (test .exact .0 tt)
 decided {b = false} test = no (test .exact .1)
 
--- what a branch on a negated test tells of the statement
+-- what a branch on a negated test tells of the statement, where it turns away
 pub test-failed : (b : Bool) {A : Type 0} → T b ↔ A → not b ≡ true → ¬ A
 test-failed b exact e a = T-not b (subst T (sym e) tt) (exact .1 a)
 
+-- and where it lets on
 pub test-passed : (b : Bool) {A : Type 0} → T b ↔ A → not b ≡ false → A
 test-passed b exact e = exact .0 (subst T (sym (not-false b e)) tt)
 
