@@ -2,9 +2,10 @@
 use Prim.Native.Nat.{ℕ, _*_, _%_, _≤_}
 use native.Mathlib.Omega.{arith}
 use mathlib.Core.Path.{_≡_, refl, sym, ap, _∙_, subst, subst₂}
+use mathlib.Core.Logic.{_↔_}
 use mathlib.Core.Bool.{Bool, true, false, not, _&&_}
 use mathlib.Core.Option.{Option, none, some}
-use lib.Dec.{leb, ltb, eqb, leb→le, le→leb}
+use lib.Dec.{T, leb, ltb, eqb, leb→le, le→leb}
 use lib.ListN.{length}
 use Rattle.reply.specs.Bytes.{Bytes, Whole}
 use Rattle.tree.specs.Tree.{Label}

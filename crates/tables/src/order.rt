@@ -15,11 +15,7 @@ use tree::is_label;
 fn label_right(used: bool, label: usize) -> bool
     ensures { λ r. ⌜ Decides r (LabelField used label) ⌝ }
 {
-    if used {
-        is_label(label)
-    } else {
-        label == 0
-    }
+    if used { is_label(label) } else { label == 0 }
 }
 
 // "Operands are numbers of earlier entries", and "unused fields are zero".
