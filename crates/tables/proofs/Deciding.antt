@@ -34,9 +34,9 @@ length-test limit b test =
     same-test (and-test (less-test 0 (length b)) test) (λ p. record { some = p .0; size = p .1 }, λ (h : QueryLength limit b). (h .some, h .size))
 
 -- a label that is used is one of 1 to 64
-pub label-used : (l : ℕ) (b : Bool) → T b ↔ Label l → Decides b (LabelField true l)
+pub label-used : {b : Bool} (l : ℕ) → T b ↔ Label l → Decides b (LabelField true l)
 unfolding LabelField
-label-used l b test = record { exact = test }
+label-used l test = record { exact = test }
 
 -- a label that is not used is 0
 pub label-unused : (l : ℕ) → Decides (eqb l 0) (LabelField false l)

@@ -8,7 +8,7 @@ is-label-requires : tie.Need-is-label-requires
 is-label-requires c κs = search needs
 
 returns : tie.Need-returns
-returns c = rw (c .before .if1 .taken) (label-used (c .before .before .args .label) (c .is-label .result) (c .is-label .ensures))
+returns c = rw (c .before .if1 .taken) (label-used (c .before .before .args .label) (c .is-label .ensures))
 
 returns-2 : tie.Need-returns-2
 returns-2 c = rw (c .if1 .left) (label-unused (c .before .args .label))
