@@ -1,0 +1,117 @@
+-- What the readers of the parts of a text come to, in terms of the rules of reading: what is read, up to where, and what is written for it.
+use Prim.Native.Nat.{ℕ, suc, _+_, _-_, _*_, _≤_, _<_}
+use mathlib.Core.Path.{_≡_}
+use mathlib.Core.List.{[], _∷_, _++_}
+use lib.ListN.{length, getD, take, drop}
+use Rattle.reply.specs.Bytes.{Bytes}
+use Rattle.query.specs.Syntax.{Path, Filter}
+use Rattle.query.specs.Table.{Entries, entryBytes}
+use Rattle.text.specs.Written.{pathEntries, filterEntries}
+use Rattle.reading.proofs.Rules.{Stop, broken, deep, Result, got, stopped, NotAt, LabelReads, PathReads, SequenceReads, ItemReads, AtomReads, FilterReads, ConjunctionReads, TermReads}
+use Rattle.reader.specs.declared.parse.Parsed.{Parsed}
+use Rattle.reader.specs.declared.parse.Parsed.the-variants.{Got, Broken, Deep}
+use Rattle.reader.specs.declared.parse.Chain.{Chain}
+use Rattle.reader.specs.declared.parse.Chain.the-variants as chain
+use Rattle.reader.specs.declared.parse.Bracket.{Bracket}
+use Rattle.reader.specs.declared.parse.Bracket.the-variants as bracket
+
+-- A kind of thing that is read: the rules that read it, what is written for it behind n entries, and how far that stays below two entries
+-- for each byte.
+pub record Line : Type 1 where
+  pub Thing : Type 0
+  pub reads : ℕ → Bytes → Result Thing → Type 0
+  pub written : ℕ → Thing → Entries
+  pub spare : ℕ
+
+-- an entry alone
+abbrev pub one : ℕ → ℕ → ℕ → ℕ → Entries
+one kind label left right = record { kind = kind; label = label; left = left; right = right } ∷ []
+
+-- Behind the n entries of the table stand these.
+unfoldable pub Added : Bytes → ℕ → Entries → Bytes → Type 0
+Added before n es after = take (6 * (n + length es)) after ≡ take (6 * n) before ++ entryBytes es
+
+-- x is read from `at` up to `to`, and its entries stand behind the n entries of the table, which now has m.
+pub record Stands (line : Line) (text : Bytes) (at : ℕ) (before : Bytes) (n : ℕ) (x : line .Thing) (to m : ℕ) (after : Bytes) : Type 0 where
+  pub further : at < to
+  pub within : to ≤ length text
+  pub count : m ≡ n + length (line .written n x)
+  pub few : m + line .spare ≤ n + 2 * (to - at)
+  pub table : Added before n (line .written n x) after
+
+-- The answer is a stop at the place i.
+pub data StopsAt : Parsed → Stop → ℕ → Type 0 where
+  broken-at : {i : ℕ} → StopsAt (Broken i) broken i
+  deep-at : {i : ℕ} → StopsAt (Deep i) deep i
+
+-- What reading from `at` with k brackets open comes to, where the table has n entries.
+pub data Follows (line : Line) (k : ℕ) (text : Bytes) (at : ℕ) (before : Bytes) (n : ℕ) : Parsed → Bytes → Type 0 where
+  follows : {x : line .Thing} {to m : ℕ} {after : Bytes} → line .reads k (drop at text) (got x (drop to text))
+      → Stands line text at before n x to m after → Follows line k text at before n (Got to m) after
+  stops : {p : Parsed} {s : Stop} {i : ℕ} {after : Bytes} → StopsAt p s i → line .reads k (drop at text) (stopped s (drop i text)) → i ≤ length text
+      → Follows line k text at before n p after
+
+-- The place is in the text, and the table has room for what can follow: two entries for each byte.
+pub record Ready (text : Bytes) (at : ℕ) (table : Bytes) (n : ℕ) : Type 0 where
+  pub within : at ≤ length text
+  pub room : 6 * (n + 2 * (length text - at)) ≤ length table
+
+abbrev pub paths : Line
+paths = record { Thing = Path; reads = PathReads; written = pathEntries; spare = 1 }
+
+abbrev pub sequences : Line
+sequences = record { Thing = Path; reads = SequenceReads; written = pathEntries; spare = 1 }
+
+abbrev pub items : Line
+items = record { Thing = Path; reads = ItemReads; written = pathEntries; spare = 1 }
+
+abbrev pub atoms : Line
+atoms = record { Thing = Path; reads = AtomReads; written = pathEntries; spare = 1 }
+
+abbrev pub filters : Line
+filters = record { Thing = Filter; reads = FilterReads; written = filterEntries; spare = 0 }
+
+abbrev pub conjunctions : Line
+conjunctions = record { Thing = Filter; reads = ConjunctionReads; written = filterEntries; spare = 0 }
+
+abbrev pub terms : Line
+terms = record { Thing = Filter; reads = TermReads; written = filterEntries; spare = 0 }
+
+-- what is made of links
+abbrev pub chains : Chain → Line
+chains chain.Path = paths
+chains chain.Sequence = sequences
+chains chain.Filter = filters
+chains chain.Conjunction = conjunctions
+
+-- the links of a chain
+abbrev pub links : Chain → Line
+links chain.Path = sequences
+links chain.Sequence = items
+links chain.Filter = conjunctions
+links chain.Conjunction = terms
+
+-- the byte that joins the links: | / + &
+abbrev pub joining : Chain → ℕ
+joining chain.Path = 124
+joining chain.Sequence = 47
+joining chain.Filter = 43
+joining chain.Conjunction = 38
+
+-- the kind of two links that are joined
+abbrev pub joinedKind : Chain → ℕ
+joinedKind chain.Path = 8
+joinedKind chain.Sequence = 7
+joinedKind chain.Filter = 22
+joinedKind chain.Conjunction = 21
+
+-- The table has room for one more entry behind those of an operand that was read.
+abbrev pub RoomBehind : Parsed → Bytes → Type 0
+RoomBehind (Got at n) table = (1 ≤ n) × (6 * (n + 1) ≤ length table)
+RoomBehind (Broken i) table = Unit {0}
+RoomBehind (Deep i) table = Unit {0}
+
+-- An entry of a kind stands behind its operand, where that was read; a stop is passed on.
+pub data Behind (kind : ℕ) (before : Bytes) : Parsed → Parsed → Bytes → Type 0 where
+  behind : {at n : ℕ} {after : Bytes} → Added before n (one kind 0 (n - 1) 0) after → Behind kind before (Got at n) (Got at (n + 1)) after
+  passed-on : {p : Parsed} {s : Stop} {i : ℕ} {after : Bytes} → StopsAt p s i → Behind kind before p p after
