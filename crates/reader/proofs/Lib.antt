@@ -1,2 +1,4 @@
 pub mod Stores
 pub mod Answers
+pub mod Places
+pub mod Labels

@@ -56,26 +56,30 @@ pub record Ready (text : Bytes) (at : ℕ) (table : Bytes) (n : ℕ) : Type 0 wh
   pub within : at ≤ length text
   pub room : 6 * (n + 2 * (length text - at)) ≤ length table
 
+-- "15: a bracket is opened while 32 are open"
+abbrev pub mostOpen : ℕ
+mostOpen = 32
+
 abbrev pub paths : Line
-paths = record { Thing = Path; reads = PathReads; written = pathEntries; spare = 1 }
+paths = record { Thing = Path; reads = PathReads mostOpen; written = pathEntries; spare = 1 }
 
 abbrev pub sequences : Line
-sequences = record { Thing = Path; reads = SequenceReads; written = pathEntries; spare = 1 }
+sequences = record { Thing = Path; reads = SequenceReads mostOpen; written = pathEntries; spare = 1 }
 
 abbrev pub items : Line
-items = record { Thing = Path; reads = ItemReads; written = pathEntries; spare = 1 }
+items = record { Thing = Path; reads = ItemReads mostOpen; written = pathEntries; spare = 1 }
 
 abbrev pub atoms : Line
-atoms = record { Thing = Path; reads = AtomReads; written = pathEntries; spare = 1 }
+atoms = record { Thing = Path; reads = AtomReads mostOpen; written = pathEntries; spare = 1 }
 
 abbrev pub filters : Line
-filters = record { Thing = Filter; reads = FilterReads; written = filterEntries; spare = 0 }
+filters = record { Thing = Filter; reads = FilterReads mostOpen; written = filterEntries; spare = 0 }
 
 abbrev pub conjunctions : Line
-conjunctions = record { Thing = Filter; reads = ConjunctionReads; written = filterEntries; spare = 0 }
+conjunctions = record { Thing = Filter; reads = ConjunctionReads mostOpen; written = filterEntries; spare = 0 }
 
 abbrev pub terms : Line
-terms = record { Thing = Filter; reads = TermReads; written = filterEntries; spare = 0 }
+terms = record { Thing = Filter; reads = TermReads mostOpen; written = filterEntries; spare = 0 }
 
 -- what is made of links
 abbrev pub chains : Chain → Line

@@ -1,7 +1,13 @@
 // Bytes of a text, and labels.
+ghost use mathlib.Core.Path.{_≡_};
+ghost use Prim.Native.Nat.{_≤_};
+ghost use lib.ListN.{length, getD};
+ghost use Rattle.reader.specs.Label.{DigitOf, LabelAt};
 
 // The byte at a place, 0 behind the end: no byte of the grammar.
-pub fn byte_at(text: &[u8], at: usize) -> u8 {
+pub fn byte_at(text: &[u8], at: usize) -> u8
+    ensures { λ r. ⌜ r ≡ getD (now (text .entry)) at 0 ⌝ }
+{
     if at < text.len() { text[at] } else { 0 }
 }
 
@@ -12,7 +18,9 @@ pub enum Label {
 }
 
 // A digit's value, and 10 of any other byte.
-fn digit(byte: u8) -> u8 {
+fn digit(byte: u8) -> u8
+    ensures { λ r. ⌜ DigitOf byte r ⌝ }
+{
     if byte < 48 {
         return 10;
     }
@@ -23,7 +31,10 @@ fn digit(byte: u8) -> u8 {
 }
 
 // 1 to 64 in decimal, no leading zero: as many digits as make such a label.
-pub fn read_label(text: &[u8], at: usize) -> Label {
+pub fn read_label(text: &[u8], at: usize) -> Label
+    requires { ⌜ at ≤ length (now text) ⌝ }
+    ensures { λ r. ⌜ LabelAt (now (text .entry)) at r ⌝ }
+{
     let tens = digit(byte_at(text, at));
     if tens == 0 {
         return Label::Nothing;
@@ -33,9 +44,10 @@ pub fn read_label(text: &[u8], at: usize) -> Label {
     }
     let ones = digit(byte_at(text, at + 1));
     if ones < 10 {
-        if 10 * tens + ones <= 64 {
+        let both = 10 * tens + ones;
+        if both <= 64 {
             return Label::Number {
-                value: 10 * tens + ones,
+                value: both,
                 next: at + 2,
             };
         }
