@@ -4,7 +4,7 @@ use native.Mathlib.Omega.{arith}
 use native.Mathlib.Decide.{decLt}
 use native.Mathlib.Numerals.{add-one}
 use mathlib.Core.Path.{_≡_, refl, sym, ap, _∙_, subst}
-use mathlib.Core.List.{List, [], _∷_, List·Memᴰ}
+use mathlib.Core.List.{List, [], _∷_, List·Memᴰ, List·Memᴰ·head, List·Memᴰ·tail, List·Memᴰ·not-nil}
 use lib.ListN.{length, getD, drop, drop-of-length-le, List·getD-eq-default}
 use lib.Seq.{drop-cons}
 use Rattle.reply.specs.Bytes.{Bytes}
@@ -43,3 +43,12 @@ unread P text at none some = go (decLt at (length text))
 -- where the byte is none of these, the unread text is not at them
 pub not-at : (these : List ℕ) (text : Bytes) (at : ℕ) → ¬ List·Memᴰ (getD text at 0) these → NotAt these (drop at text)
 not-at these text at h = unread (NotAt these) text at ended (λ b. other h)
+
+-- nothing is among none
+pub none-of : {c : ℕ} → ¬ List·Memᴰ c []
+none-of m = List·Memᴰ·not-nil m
+
+-- what is neither the first nor among the others is not among them
+pub nor : {c x : ℕ} {xs : List ℕ} → (c ≡ x → ⊥) → ¬ List·Memᴰ c xs → ¬ List·Memᴰ c (x ∷ xs)
+nor first others (List·Memᴰ·head e) = first e
+nor first others (List·Memᴰ·tail m) = others m

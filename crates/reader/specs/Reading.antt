@@ -1,7 +1,7 @@
 -- What the readers of the parts of a text come to, in terms of the rules of reading: what is read, up to where, and what is written for it.
 use Prim.Native.Nat.{ℕ, suc, _+_, _-_, _*_, _≤_, _<_}
 use mathlib.Core.Path.{_≡_}
-use mathlib.Core.List.{[], _∷_, _++_}
+use mathlib.Core.List.{[], _∷_, _++_, List·Memᴰ}
 use lib.ListN.{length, getD, take, drop}
 use Rattle.reply.specs.Bytes.{Bytes}
 use Rattle.query.specs.Syntax.{Path, Filter}
@@ -108,6 +108,54 @@ joinedKind chain.Path = 8
 joinedKind chain.Sequence = 7
 joinedKind chain.Filter = 22
 joinedKind chain.Conjunction = 21
+
+-- A label, as a filter of it is written.
+abbrev pub labels : Line
+labels = record { Thing = ℕ; reads = λ k b r. LabelReads b r; written = λ n l. one 16 l 0 0; spare = 1 }
+
+-- A bracket opens with the first byte: what stands in it is read with one more bracket open, up to the byte that closes it.
+pub data Bracketed {A : Type 0} (inner : ℕ → Bytes → Result A → Type 0) (close : ℕ) : ℕ → Bytes → Result A → Type 0 where
+  closes : {k c : ℕ} {b more : Bytes} {x : A} → k < mostOpen → inner (suc k) b (got x (close ∷ more)) → Bracketed inner close k (c ∷ b) (got x more)
+  stays-open : {k c : ℕ} {b more : Bytes} {x : A} → k < mostOpen → inner (suc k) b (got x more) → NotAt (close ∷ []) more → Bracketed inner close k (c ∷ b) (stopped broken more)
+  inner-stops : {k c : ℕ} {b more : Bytes} {s : Stop} → k < mostOpen → inner (suc k) b (stopped s more) → Bracketed inner close k (c ∷ b) (stopped s more)
+  too-deep : {k c : ℕ} {b : Bytes} → mostOpen ≤ k → Bracketed inner close k (c ∷ b) (stopped deep (c ∷ b))
+
+-- the byte that closes a bracket: ] ) }
+abbrev pub closingByte : Bracket → ℕ
+closingByte bracket.Square = 93
+closingByte bracket.Round = 41
+closingByte bracket.Curly = 125
+
+-- what stands in a bracket
+abbrev pub insides : Bracket → Line
+insides bracket.Square = filters
+insides bracket.Round = paths
+insides bracket.Curly = filters
+
+-- A bracket with what stands in it: its two bytes write nothing.
+abbrev pub brackets : Bracket → Line
+brackets k = record { Thing = insides k .Thing; reads = Bracketed (insides k .reads) (closingByte k); written = insides k .written; spare = insides k .spare + 4 }
+
+-- The next place, or the place of the stop.
+abbrev pub placeOf : Parsed → ℕ
+placeOf (Got at n) = at
+placeOf (Broken i) = i
+placeOf (Deep i) = i
+
+-- What was read ends with the closing byte; a stop is passed on.
+pub data Closed (text : Bytes) (close : ℕ) : Parsed → Parsed → Type 0 where
+  closed-by : {at n : ℕ} → getD text at 0 ≡ close → Closed text close (Got at n) (Got (at + 1) n)
+  open-at : {at n : ℕ} → (getD text at 0 ≡ close → ⊥) → Closed text close (Got at n) (Broken at)
+  passed-by : {p : Parsed} {s : Stop} {i : ℕ} → StopsAt p s i → Closed text close p p
+
+-- The kind of an atom that is one byte, . v ^ > <, and 0 of any other byte.
+pub data AxisOf (byte : ℕ) : ℕ → Type 0 where
+  dot : byte ≡ 46 → AxisOf byte 1
+  letter-v : byte ≡ 118 → AxisOf byte 2
+  caret : byte ≡ 94 → AxisOf byte 3
+  greater : byte ≡ 62 → AxisOf byte 4
+  less : byte ≡ 60 → AxisOf byte 5
+  no-axis : ¬ List·Memᴰ byte (46 ∷ 118 ∷ 94 ∷ 62 ∷ 60 ∷ []) → AxisOf byte 0
 
 -- The table has room for one more entry behind those of an operand that was read.
 abbrev pub RoomBehind : Parsed → Bytes → Type 0

@@ -1,0 +1,47 @@
+use borrow.Author.Needs.{needs}
+use Rattle.reader.proofs.parse.labelled.Statement.{statement}
+use Rattle.reader.proofs.parse.labelled.Tie as tie
+use Rattle.reader.proofs.parse.labelled.Reads as reads
+use Rattle.reader.proofs.parse.labelled.Lts as lts
+use Rattle.reader.proofs.entry.leaf.Reads as leaf-reads
+use Rattle.reader.proofs.label.read_label.Reads as read-label-reads
+
+-- src/parse.rt:223:9
+read-label-requires : tie.Need-read-label-requires
+read-label-requires c κs = search needs
+
+-- src/parse.rt:224:25
+enum-known-label : tie.Need-enum-known-label
+enum-known-label c = search needs
+
+-- src/parse.rt:225:9
+enum-told : tie.Need-enum-told
+enum-told c = search needs
+
+-- src/parse.rt:225:9
+returns : tie.Need-returns
+returns c = ?
+
+-- src/parse.rt:227:5
+leaf-requires : tie.Need-leaf-requires
+leaf-requires c κs = ?
+
+-- src/parse.rt:219:1
+same-length : tie.Need-same-length
+same-length c = search needs
+
+-- src/parse.rt:219:1
+returns-2 : tie.Need-returns-2
+returns-2 c = ?
+
+pub labelled-spec : {M : Type 1} → statement M
+labelled-spec =
+    tie.close
+    (tie.spec
+    read-label-requires
+    enum-known-label
+    enum-told
+    returns
+    leaf-requires
+    same-length
+    returns-2)
