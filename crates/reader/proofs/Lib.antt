@@ -2,3 +2,10 @@ pub mod Stores
 pub mod Answers
 pub mod Places
 pub mod Labels
+pub mod Entries
+pub mod Following
+pub mod Chains
+pub mod Stars
+pub mod Enclosed
+pub mod Atoms
+pub mod Terms

@@ -21,8 +21,9 @@ run t i vs h =
 pub stored : (t : Bytes) (n kind label left right : ℕ) → 6 * (n + 1) ≤ length t
     → Added t n (one kind label left right)
         (set (set (set (set (set (set t (6 * n) kind) (6 * n + 1) label) (6 * n + 2) (left % 256)) (6 * n + 3) (left / 256 % 256)) (6 * n + 4) (right % 256)) (6 * n + 5) (right / 256 % 256))
-unfolding Added entryBytes twoBytes
+unfolding entryBytes twoBytes
 stored t n kind label left right h =
     let end : 6 * (n + 1) ≡ 6 * n + 6 = omega arith in
     let fits : 6 * n + 6 ≤ length t = omega arith in
-    rw end (simp towards-suc (simp towards-suc at (run t (6 * n) (kind ∷ label ∷ left % 256 ∷ left / 256 % 256 ∷ right % 256 ∷ right / 256 % 256 ∷ []) fits)))
+    let bytes : Bytes = kind ∷ label ∷ left % 256 ∷ left / 256 % 256 ∷ right % 256 ∷ right / 256 % 256 ∷ [] in
+    record { front = rw end (simp towards-suc (simp towards-suc at (run t (6 * n) bytes fits))) }

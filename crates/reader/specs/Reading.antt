@@ -23,21 +23,25 @@ pub record Line : Type 1 where
   pub written : ℕ → Thing → Entries
   pub spare : ℕ
 
+abbrev pub asLine : {A : Type 0} → (ℕ → Bytes → Result A → Type 0) → (ℕ → A → Entries) → ℕ → Line
+asLine {A} reads written spare = record { Thing = A; reads = reads; written = written; spare = spare }
+
 -- an entry alone
 abbrev pub one : ℕ → ℕ → ℕ → ℕ → Entries
 one kind label left right = record { kind = kind; label = label; left = left; right = right } ∷ []
 
 -- Behind the n entries of the table stand these.
-unfoldable pub Added : Bytes → ℕ → Entries → Bytes → Type 0
-Added before n es after = take (6 * (n + length es)) after ≡ take (6 * n) before ++ entryBytes es
+pub record Added (before : Bytes) (n : ℕ) (es : Entries) (after : Bytes) : Type 0 where
+  pub front : take (6 * (n + length es)) after ≡ take (6 * n) before ++ entryBytes es
 
 -- x is read from `at` up to `to`, and its entries stand behind the n entries of the table, which now has m.
-pub record Stands (line : Line) (text : Bytes) (at : ℕ) (before : Bytes) (n : ℕ) (x : line .Thing) (to m : ℕ) (after : Bytes) : Type 0 where
+pub record Stands {A : Type 0} (written : ℕ → A → Entries) (spare : ℕ) (text : Bytes) (at : ℕ) (before : Bytes) (n : ℕ) (x : A) (to m : ℕ) (after : Bytes) : Type 0 where
   pub further : at < to
+  pub some : n < m
   pub within : to ≤ length text
-  pub count : m ≡ n + length (line .written n x)
-  pub few : m + line .spare ≤ n + 2 * (to - at)
-  pub table : Added before n (line .written n x) after
+  pub count : m ≡ n + length (written n x)
+  pub few : m + spare ≤ n + 2 * (to - at)
+  pub table : Added before n (written n x) after
 
 -- The answer is a stop at the place i.
 pub data StopsAt : Parsed → Stop → ℕ → Type 0 where
@@ -47,7 +51,7 @@ pub data StopsAt : Parsed → Stop → ℕ → Type 0 where
 -- What reading from `at` with k brackets open comes to, where the table has n entries.
 pub data Follows (line : Line) (k : ℕ) (text : Bytes) (at : ℕ) (before : Bytes) (n : ℕ) : Parsed → Bytes → Type 0 where
   follows : {x : line .Thing} {to m : ℕ} {after : Bytes} → line .reads k (drop at text) (got x (drop to text))
-      → Stands line text at before n x to m after → Follows line k text at before n (Got to m) after
+      → Stands (line .written) (line .spare) text at before n x to m after → Follows line k text at before n (Got to m) after
   stops : {p : Parsed} {s : Stop} {i : ℕ} {after : Bytes} → StopsAt p s i → line .reads k (drop at text) (stopped s (drop i text)) → i ≤ length text
       → Follows line k text at before n p after
 
@@ -61,39 +65,58 @@ abbrev pub mostOpen : ℕ
 mostOpen = 32
 
 abbrev pub paths : Line
-paths = record { Thing = Path; reads = PathReads mostOpen; written = pathEntries; spare = 1 }
-
-abbrev pub sequences : Line
-sequences = record { Thing = Path; reads = SequenceReads mostOpen; written = pathEntries; spare = 1 }
+paths = asLine (PathReads mostOpen) pathEntries 1
 
 abbrev pub items : Line
-items = record { Thing = Path; reads = ItemReads mostOpen; written = pathEntries; spare = 1 }
+items = asLine (ItemReads mostOpen) pathEntries 1
 
 abbrev pub atoms : Line
-atoms = record { Thing = Path; reads = AtomReads mostOpen; written = pathEntries; spare = 1 }
+atoms = asLine (AtomReads mostOpen) pathEntries 1
 
 abbrev pub filters : Line
-filters = record { Thing = Filter; reads = FilterReads mostOpen; written = filterEntries; spare = 0 }
-
-abbrev pub conjunctions : Line
-conjunctions = record { Thing = Filter; reads = ConjunctionReads mostOpen; written = filterEntries; spare = 0 }
+filters = asLine (FilterReads mostOpen) filterEntries 0
 
 abbrev pub terms : Line
-terms = record { Thing = Filter; reads = TermReads mostOpen; written = filterEntries; spare = 0 }
+terms = asLine (TermReads mostOpen) filterEntries 0
 
--- what is made of links
+-- paths and sequences are paths, filters and conjunctions filters
+abbrev pub Joined : Chain → Type 0
+Joined chain.Path = Path
+Joined chain.Sequence = Path
+Joined chain.Filter = Filter
+Joined chain.Conjunction = Filter
+
+abbrev pub joinedEntries : (c : Chain) → ℕ → Joined c → Entries
+joinedEntries chain.Path = pathEntries
+joinedEntries chain.Sequence = pathEntries
+joinedEntries chain.Filter = filterEntries
+joinedEntries chain.Conjunction = filterEntries
+
+abbrev pub joinedSpare : Chain → ℕ
+joinedSpare chain.Path = 1
+joinedSpare chain.Sequence = 1
+joinedSpare chain.Filter = 0
+joinedSpare chain.Conjunction = 0
+
+abbrev pub ChainReads : (c : Chain) → ℕ → Bytes → Result (Joined c) → Type 0
+ChainReads chain.Path = PathReads mostOpen
+ChainReads chain.Sequence = SequenceReads mostOpen
+ChainReads chain.Filter = FilterReads mostOpen
+ChainReads chain.Conjunction = ConjunctionReads mostOpen
+
+abbrev pub LinkReads : (c : Chain) → ℕ → Bytes → Result (Joined c) → Type 0
+LinkReads chain.Path = SequenceReads mostOpen
+LinkReads chain.Sequence = ItemReads mostOpen
+LinkReads chain.Filter = ConjunctionReads mostOpen
+LinkReads chain.Conjunction = TermReads mostOpen
+
+-- what is made of links that a byte joins
 abbrev pub chains : Chain → Line
-chains chain.Path = paths
-chains chain.Sequence = sequences
-chains chain.Filter = filters
-chains chain.Conjunction = conjunctions
+chains c = asLine (ChainReads c) (joinedEntries c) (joinedSpare c)
 
 -- the links of a chain
 abbrev pub links : Chain → Line
-links chain.Path = sequences
-links chain.Sequence = items
-links chain.Filter = conjunctions
-links chain.Conjunction = terms
+links c = asLine (LinkReads c) (joinedEntries c) (joinedSpare c)
 
 -- the byte that joins the links: | / + &
 abbrev pub joining : Chain → ℕ
@@ -111,7 +134,7 @@ joinedKind chain.Conjunction = 21
 
 -- A label, as a filter of it is written.
 abbrev pub labels : Line
-labels = record { Thing = ℕ; reads = λ k b r. LabelReads b r; written = λ n l. one 16 l 0 0; spare = 1 }
+labels = asLine (λ k. LabelReads) (λ n l. one 16 l 0 0) 1
 
 -- A bracket opens with the first byte: what stands in it is read with one more bracket open, up to the byte that closes it.
 pub data Bracketed {A : Type 0} (inner : ℕ → Bytes → Result A → Type 0) (close : ℕ) : ℕ → Bytes → Result A → Type 0 where
@@ -134,7 +157,7 @@ insides bracket.Curly = filters
 
 -- A bracket with what stands in it: its two bytes write nothing.
 abbrev pub brackets : Bracket → Line
-brackets k = record { Thing = insides k .Thing; reads = Bracketed (insides k .reads) (closingByte k); written = insides k .written; spare = insides k .spare + 4 }
+brackets k = asLine (Bracketed (insides k .reads) (closingByte k)) (insides k .written) (insides k .spare + 4)
 
 -- The next place, or the place of the stop.
 abbrev pub placeOf : Parsed → ℕ
