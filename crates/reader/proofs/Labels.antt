@@ -5,11 +5,19 @@ use mathlib.Core.Path.{_≡_, refl, sym, ap, _∙_, subst}
 use mathlib.Core.Logic.{_⊎_, inl, inr}
 use mathlib.Core.List.{[], _∷_}
 use lib.ListN.{length, getD, drop}
+use denote.Enum.Declared.{tagOf}
+use types.Run.{OneOf}
 use Rattle.reply.specs.Bytes.{Bytes}
 use Rattle.reading.proofs.Rules.{broken, Result, got, stopped, NoSecond, NoDigit, LabelReads, one-digit, two-digits, no-digit}
 use Rattle.reading.proofs.Rules as rules
 use Rattle.reader.specs.Label.{DigitOf, digit, too-low, too-high, LabelAt, number, nothing}
+use Rattle.reader.specs.declared.label.Label.{Label}
 use Rattle.reader.specs.declared.label.Label.the-variants.{Number, Nothing}
+use Rattle.reader.specs.declared.parse.Parsed.{Parsed}
+use Rattle.reader.specs.declared.parse.Parsed.the-variants.{Got, Broken}
+use Rattle.reader.specs.Reading.{one, Added, broken-at, Follows, stops, labels}
+use Rattle.reader.proofs.label.Label as the-label
+use Rattle.reader.proofs.Following.{leaf-follows}
 use Rattle.reader.proofs.Places.{here, inside, unread}
 
 -- a value that is not 10 is a digit's
@@ -70,3 +78,24 @@ module _ (text : Bytes) (at : ℕ) where
             first ∙ ap (λ (b : Bytes). (48 + d) ∷ b) (second ∙ ap (λ (k : ℕ). (48 + e) ∷ drop k text) next) in
         let j : at + 1 < length text = inside text (at + 1) (omega arith) in
         number {to = at + 2} (subst (λ (b : Bytes). LabelReads b (got (10 * d + e) (drop (at + 2) text))) (sym both) (two-digits (omega arith) (omega arith) z)) (omega arith) (omega arith)
+
+-- a label that was read, as its filter is written
+module _ {text : Bytes} {at : ℕ} {label : Label} (h : LabelAt text at label) where
+  -- there is none
+  pub not-numbered : {before after : Bytes} {n : ℕ} → OneOf (1 ∷ []) (tagOf the-label.the-type label) → at ≤ length text → Follows labels 0 text at before n (Broken at) after
+  not-numbered {before = before} {after = after} {n = n} none l = go label none h
+    where
+      go : (x : Label) → OneOf (1 ∷ []) (tagOf the-label.the-type x) → LabelAt text at x → Follows labels 0 text at before n (Broken at) after
+      go (Number v to) e (number rd l i) = absurd (omega arith)
+      go Nothing e (nothing rd) = stops broken-at rd l
+
+  module _ {value next : ℕ} (e : label ≡ Number value next) where
+    -- there is one, and the text is longer
+    pub numbered : LabelReads (drop at text) (got value (drop next text)) × (at < next) × (next ≤ length text)
+    numbered = go (subst (λ (x : Label). LabelAt text at x) e h)
+      where
+        go : LabelAt text at (Number value next) → LabelReads (drop at text) (got value (drop next text)) × (at < next) × (next ≤ length text)
+        go (number rd l i) = (rd, l, i)
+
+    pub number-follows : {before after : Bytes} {n : ℕ} {p : Parsed} → (p ≡ Got next (n + 1)) × Added before n (one 16 value 0 0) after → Follows labels 0 text at before n p after
+    number-follows w = leaf-follows {to = next} value (numbered .0) refl (omega arith) (numbered .1) (numbered .2) w

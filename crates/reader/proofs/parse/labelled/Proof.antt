@@ -1,3 +1,6 @@
+-- `labelled` meets its contract. Assumes nothing.
+use native.Mathlib.Omega.{arith}
+use Rattle.reader.proofs.Labels.{not-numbered, numbered, number-follows}
 use borrow.Author.Needs.{needs}
 use Rattle.reader.proofs.parse.labelled.Statement.{statement}
 use Rattle.reader.proofs.parse.labelled.Tie as tie
@@ -20,11 +23,14 @@ enum-told c = search needs
 
 -- src/parse.rt:225:9
 returns : tie.Need-returns
-returns c = ?
+returns c = not-numbered (c .before .before .read-label .ensures) (c .before .match .keys2) (c .before .before .before .before .before .pre .within)
 
 -- src/parse.rt:227:5
 leaf-requires : tie.Need-leaf-requires
-leaf-requires c κs = ?
+leaf-requires c κs =
+    let n = numbered (c .before .before .before .before .read-label .ensures) (c .before .before .label .given .1) in
+    let r = c .before .before .before .before .before .before .before .pre .room in
+    omega (arith, n .1, n .2)
 
 -- src/parse.rt:219:1
 same-length : tie.Need-same-length
@@ -32,7 +38,7 @@ same-length c = search needs
 
 -- src/parse.rt:219:1
 returns-2 : tie.Need-returns-2
-returns-2 c = ?
+returns-2 c = number-follows (c .before .before .before .before .before .before .before .read-label .ensures) (c .before .before .before .before .before .label .given .1) (c .before .before .leaf .ensures)
 
 pub labelled-spec : {M : Type 1} → statement M
 labelled-spec =
