@@ -46,6 +46,10 @@ axis n k {b = b} (greater e) z = (next, subst (λ (c : ℕ). AtomReads mostOpen 
 axis n k {b = b} (less e) z = (previous, subst (λ (c : ℕ). AtomReads mostOpen k (c ∷ b) (got previous b)) (sym e) rules.less, refl, omega arith)
 axis n k (no-axis a) z = absurd (z refl)
 
+-- the byte of an axis is not 0
+pub axis-seen : {byte kind : ℕ} → AxisOf byte kind → (kind ≡ 0 → ⊥) → 0 < byte
+axis-seen a z = axis 0 0 {b = []} a z .3
+
 -- a byte that is neither a bracket nor an axis begins no atom
 none : {byte kind : ℕ} → (byte ≡ 91 → ⊥) → (byte ≡ 40 → ⊥) → AxisOf byte kind → kind ≡ 0 → ¬ List·Memᴰ byte atomBytes
 none s r (dot e) z m = omega arith

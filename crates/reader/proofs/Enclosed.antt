@@ -4,13 +4,19 @@ use native.Mathlib.Omega.{arith}
 use native.Mathlib.Numerals.{add-one}
 use mathlib.Core.Path.{_≡_, refl, sym, ap, _∙_, subst}
 use mathlib.Core.List.{[], _∷_, _++_}
+use mathlib.Core.Logic.{inl, inr}
 use lib.ListN.{length, getD, drop}
+use denote.Enum.Declared.{tagOf}
+use types.Run.{OneOf}
 use Rattle.reply.specs.Bytes.{Bytes}
 use Rattle.query.specs.Table.{Entries}
 use Rattle.reading.proofs.Rules.{Result, got, stopped, broken, deep, NotAt}
 use Rattle.reader.specs.declared.parse.Parsed.{Parsed}
 use Rattle.reader.specs.declared.parse.Parsed.the-variants.{Got, Broken, Deep}
-use Rattle.reader.specs.Reading.{asLine, mostOpen, StopsAt, broken-at, deep-at, Follows, follows, stops, Bracketed, closes, stays-open, inner-stops, too-deep, Closed, closed-by, open-at, passed-by}
+use Rattle.reader.specs.declared.parse.Bracket.{Bracket}
+use Rattle.reader.specs.declared.parse.Bracket.the-variants.{Square, Round, Curly}
+use Rattle.reader.proofs.parse.Bracket as the-bracket
+use Rattle.reader.specs.Reading.{paths, filters, insides, brackets, closingByte, asLine, mostOpen, StopsAt, broken-at, deep-at, Follows, follows, stops, Bracketed, closes, stays-open, inner-stops, too-deep, Closed, closed-by, open-at, passed-by}
 use Rattle.reader.proofs.Places.{begins, here, inside, not-at, none-of, nor}
 use Rattle.reader.proofs.Following.{no-stop}
 
@@ -46,3 +52,32 @@ module _ {A : Type 0} (reads : ℕ → Bytes → Result A → Type 0) (written :
   bracket-read o (stops no-such rd w) (closed-by e) = absurd (no-stop no-such)
   bracket-read o (stops no-such rd w) (open-at e) = absurd (no-stop no-such)
   bracket-read {k = k} o (stops st rd w) (passed-by again) = stops st (opened (inner-stops o (rw (add-one k) at rd))) w
+
+-- The three brackets.
+module _ (b : Bracket) where
+  -- no bracket is closed by the byte 0
+  closing-seen : 0 < closingByte b
+  closing-seen = elim b [ Square ↦ omega arith | Round ↦ omega arith | Curly ↦ omega arith ]
+
+  module _ (text : Bytes) (at : ℕ) (l : at < length text) {k n : ℕ} {before : Bytes} where
+    pub bracket-too-deep : {after : Bytes} → mostOpen ≤ k → Follows (brackets b) k text at before n (Deep at) after
+    bracket-too-deep d = one-too-many (insides b .reads) (insides b .written) (insides b .spare) (closingByte b) closing-seen text at l d
+
+    pub bracket-follows : {after : Bytes} {p r : Parsed} {close : ℕ} → k < mostOpen → Follows (insides b) (k + 1) text (at + 1) before n p after → close ≡ closingByte b → Closed text close p r
+        → Follows (brackets b) k text at before n r after
+    bracket-follows {p = p} {r = r} o f e c =
+        bracket-read (insides b .reads) (insides b .written) (insides b .spare) (closingByte b) closing-seen text at l o f (subst (λ (x : ℕ). Closed text x p r) e c)
+
+module _ {k : ℕ} {text : Bytes} {at : ℕ} {before : Bytes} {n : ℕ} {p : Parsed} {after : Bytes} where
+  -- a path stands in a round bracket
+  pub path-inside : (b : Bracket) → OneOf (1 ∷ []) (tagOf the-bracket.the-type b) → Follows paths k text at before n p after → Follows (insides b) k text at before n p after
+  path-inside Square e f = absurd (omega arith)
+  path-inside Round e f = f
+  path-inside Curly e f = absurd (omega arith)
+
+  -- a filter in any other
+  pub filter-inside : (b : Bracket) → OneOf (0 ∷ 2 ∷ []) (tagOf the-bracket.the-type b) → Follows filters k text at before n p after → Follows (insides b) k text at before n p after
+  filter-inside Square e f = f
+  filter-inside Round (inl e) f = absurd (omega arith)
+  filter-inside Round (inr e) f = absurd (omega arith)
+  filter-inside Curly e f = f

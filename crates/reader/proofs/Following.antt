@@ -108,3 +108,7 @@ module _ {line outer : Line} (wrap : line .Thing → outer .Thing) {k j : ℕ} {
   wrapped writes s (follows rd st) (passed-on no-such) = absurd (no-stop no-such)
   wrapped writes s (stops no-such rd w) (behind b) = absurd (no-stop no-such)
   wrapped writes s (stops st rd w) (passed-on again) = stops st (turns .halts rd) w
+
+-- behind a byte of the text the reader is ready again
+pub ready-on : {text : Bytes} {at : ℕ} {table : Bytes} {n : ℕ} → Ready text at table n → at < length text → Ready text (at + 1) table n
+ready-on r l = let s = r .room in record { within = omega arith; room = omega arith }

@@ -9,3 +9,4 @@ pub mod Stars
 pub mod Enclosed
 pub mod Atoms
 pub mod Terms
+pub mod Chosen
