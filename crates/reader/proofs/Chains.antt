@@ -18,7 +18,7 @@ use Rattle.reader.specs.Reading.{Line, asLine, one, Added, Stands, Stops
 use Rattle.reader.proofs.Entries.{added-on}
 use Rattle.reader.proofs.Places.{here, inside, not-at, none-of, nor}
 use Rattle.reader.proofs.Answers.{Failed, not-failed}
-use Rattle.reader.proofs.Following.{no-stop}
+use Rattle.reader.proofs.Following.{got-stands}
 
 -- What the rules say of things that are made of links which a byte joins, grouping to the left.
 pub record Chaining (A : Type 0) (link whole : ℕ → Bytes → Result A → Type 0) (more : ℕ → A → Bytes → Result A → Type 0) (written : ℕ → A → Entries) (join : A → A → A) (byte kind : ℕ) : Type 0 where
@@ -60,9 +60,9 @@ pub record Going (line : Line) (more : line .Thing → Bytes → Result (line .T
 module _ {A : Type 0} {link whole : ℕ → Bytes → Result A → Type 0} {more : ℕ → A → Bytes → Result A → Type 0} {written : ℕ → A → Entries} {join : A → A → A} {byte kind : ℕ}
     (chained : Chaining A link whole more written join byte kind) (spare : ℕ) {k : ℕ} {text : Bytes} {at : ℕ} {before : Bytes} {n : ℕ} where
   -- the first link is read
-  pub started : {to m : ℕ} {after : Bytes} → Follows (asLine link written spare) k text at before n (Got to m) after → Going (asLine whole written spare) (more k) k text at before n to m after
-  started (follows {x = x} rd st) = record { thing = x; goes-on = λ r g. chained .starts rd g; stands = st }
-  started (stops no-such rd w) = absurd (no-stop no-such)
+  pub started : {p : Parsed} {to m : ℕ} {after : Bytes} → p ≡ Got to m → Follows (asLine link written spare) k text at before n p after
+      → Going (asLine whole written spare) (more k) k text at before n to m after
+  started e f = let (x, rd, st) = got-stands e f in record { thing = x; goes-on = λ r g. chained .starts rd g; stands = st }
 
   -- the first link is not read
   pub not-started : {p : Parsed} {after : Bytes} → Failed p → Follows (asLine link written spare) k text at before n p after → Follows (asLine whole written spare) k text at before n p after
@@ -89,10 +89,11 @@ module _ {A : Type 0} {link whole : ℕ → Bytes → Result A → Type 0} {more
           stops st (going .goes-on r (subst (λ (b : Bytes). more k (going .thing) b r) (sym joint) (chained .join-stops rd))) w
 
       -- one more link is read, and the two are joined
-      pub turned : {to l : ℕ} {after last : Bytes} → Follows (asLine link written spare) k text (next + 1) mid m (Got to l) after
-          → Added after l (one kind 0 (m - 1) (l - 1)) last → Going (asLine whole written spare) (more k) k text at before n to (l + 1) last
-      turned (stops no-such rd w) a = absurd (no-stop no-such)
-      turned {to = to} {l = l} {after = after} {last = last} (follows {x = y} rd st) a =
+      pub turned : {p : Parsed} {to l number : ℕ} {after last : Bytes} → p ≡ Got to l → Follows (asLine link written spare) k text (next + 1) mid m p after
+          → number ≡ kind → Added after l (one number 0 (m - 1) (l - 1)) last → Going (asLine whole written spare) (more k) k text at before n to (l + 1) last
+      turned {to = to} {l = l} {after = after} {last = last} q w same b =
+          let a : Added after l (one kind 0 (m - 1) (l - 1)) last = subst (λ (i : ℕ). Added after l (one i 0 (m - 1) (l - 1)) last) same b in
+          let (y, rd, st) = got-stands q w in
           let x : A = going .thing in
           let es : Entries = written n x in
           let fs : Entries = written m y in

@@ -32,6 +32,14 @@ module _ {line : Line} {k : ℕ} {text : Bytes} {at : ℕ} {before after : Bytes
   place-in-text (follows rd st) = st .within
   place-in-text (stops st rd w) = subst (λ (i : ℕ). i ≤ length text) (sym (stop-place st)) w
 
+  -- what was read stands in the table
+  pub got-stands : {p : Parsed} {to m : ℕ} → p ≡ Got to m → Follows line k text at before n p after → (x : line .Thing) × line .reads k (drop at text) (got x (drop to text)) × Stands (line .written) (line .spare) text at before n x to m after
+  got-stands {to = to} {m = m} e f = go (subst (λ (q : Parsed). Follows line k text at before n q after) e f)
+    where
+      go : Follows line k text at before n (Got to m) after → (x : line .Thing) × line .reads k (drop at text) (got x (drop to text)) × Stands (line .written) (line .spare) text at before n x to m after
+      go (follows {x = x} rd st) = (x, rd, st)
+      go (stops no-such rd w) = absurd (no-stop no-such)
+
   -- one entry without operands, from `at` up to `to`
   pub leaf-follows : {kind label to : ℕ} {p : Parsed} (x : line .Thing) → line .reads k (drop at text) (got x (drop to text)) → line .written n x ≡ one kind label 0 0
       → line .spare ≤ 1 → at < to → to ≤ length text → (p ≡ Got to (n + 1)) × Added before n (one kind label 0 0) after → Follows line k text at before n p after
@@ -112,3 +120,12 @@ module _ {line outer : Line} (wrap : line .Thing → outer .Thing) {k j : ℕ} {
 -- behind a byte of the text the reader is ready again
 pub ready-on : {text : Bytes} {at : ℕ} {table : Bytes} {n : ℕ} → Ready text at table n → at < length text → Ready text (at + 1) table n
 ready-on r l = let s = r .room in record { within = omega arith; room = omega arith }
+
+-- where a thing stands, the reader is ready behind one more byte
+pub ready-after : {A : Type 0} {written : ℕ → A → Entries} {spare : ℕ} {text : Bytes} {at : ℕ} {before : Bytes} {n : ℕ} {x : A} {to m : ℕ} {after : Bytes}
+    → Ready text at before n → Stands written spare text at before n x to m after → length after ≡ length before → to < length text → Ready text (to + 1) after m
+ready-after r st e l =
+    let a = r .room in
+    let b = st .few in
+    let c = st .further in
+    record { within = omega arith; room = omega arith }

@@ -15,14 +15,13 @@ use Rattle.reader.specs.Reading.{one, Added, Follows, follows, stops, it
 use Rattle.reader.proofs.Entries.{added-on}
 use Rattle.reader.proofs.Places.{here, inside, not-at, none-of, nor}
 use Rattle.reader.proofs.Answers.{Failed, not-failed}
-use Rattle.reader.proofs.Following.{no-stop}
+use Rattle.reader.proofs.Following.{got-stands}
 use Rattle.reader.proofs.Chains.{Going}
 
 module _ {k : ℕ} {text : Bytes} {at : ℕ} {before : Bytes} {n : ℕ} where
   -- the atom is read
-  pub atom-read : {to m : ℕ} {after : Bytes} → Follows atoms k text at before n (Got to m) after → Going items StarsRead k text at before n to m after
-  atom-read (follows {x = x} rd st) = record { thing = x; goes-on = λ r s. item rd s; stands = st }
-  atom-read (stops no-such rd w) = absurd (no-stop no-such)
+  pub atom-read : {p : Parsed} {to m : ℕ} {after : Bytes} → p ≡ Got to m → Follows atoms k text at before n p after → Going items StarsRead k text at before n to m after
+  atom-read e f = let (x, rd, st) = got-stands e f in record { thing = x; goes-on = λ r s. item rd s; stands = st }
 
   -- the atom is not read
   pub atom-not-read : {p : Parsed} {after : Bytes} → Failed p → Follows atoms k text at before n p after → Follows items k text at before n p after
