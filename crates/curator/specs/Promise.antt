@@ -22,7 +22,7 @@ pub record ViewAnswered (roll annotation filters query before : Bytes) (c : ℕ)
 unfoldable pub CuratorAnswered : Bytes → Bytes → Bytes → Bytes → Bytes → Said → Bytes → Type 0
 CuratorAnswered roll annotation filters query before said after =
     Outcome 512
-    (Roll roll × Annotated annotation filters × Query curators query)
+    (Roll roll × (Annotated annotation filters × Query curators query))
     (InTurn (Roll roll) (RollFault roll)
     (InTurn (Annotated annotation filters) (AnnotatedFault annotation filters) (QueryFault curators query)))
     (ViewAnswered roll annotation filters query before)

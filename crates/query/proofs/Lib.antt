@@ -5,3 +5,5 @@ pub mod Steps
 pub mod Rounds
 pub mod Deciding
 pub mod Answers
+pub mod Unique
+pub mod Tables

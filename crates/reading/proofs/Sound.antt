@@ -1,7 +1,7 @@
 -- What the rules of reading get is what a text of the grammar stands for, and what they read before a stop begins such a text. Assumes nothing.
-use Prim.Native.Nat.{ℕ, zero-le}
+use Prim.Native.Nat.{ℕ, _+_}
 use native.Mathlib.Omega.{arith}
-use mathlib.Core.Path.{_≡_, refl, ap, _∙_}
+use mathlib.Core.Path.{_≡_, refl, ap}
 use mathlib.Core.List.{[], _∷_, _++_, append-assoc}
 use Rattle.reply.specs.Bytes.{Bytes}
 use Rattle.query.specs.Syntax.{Path, Filter}
@@ -37,6 +37,11 @@ longer u anything = anything
 longer u bracket = bracket
 
 module _ {A : Type 0} {X : Bytes → A → Type 0} where
+  -- the bytes read are a text of what is got
+  exactly : (s : Bytes) {more : Bytes} {x : A} → X s x → Heard X (s ++ more) (got x more)
+  exactly s w = whole (record { front = s; splits = refl; text = w })
+
+  -- what is got has its text in front
   pub span : {b more : Bytes} {x : A} → Heard X b (got x more) → Span X b x more
   span (whole v) = v
 
@@ -45,6 +50,7 @@ module _ {A : Type 0} {X : Bytes → A → Type 0} where
     lift : {b more : Bytes} {x : A} {y : B} → ((s : Bytes) → X s x → Y s y) → Span X b x more → Span Y b y more
     lift f v = record { front = v .front; splits = v .splits; text = f (v .front) (v .text) }
 
+    -- and so where reading stops
     lift-stop : {b more : Bytes} {s : Stop} → ((u : Bytes) (x : A) → X u x → (y : B) × Y u y) → Heard X b (stopped s more) → Heard Y b (stopped s more)
     lift-stop f (begun {x = x} u t e w a) = begun u t e (f (u ++ t) x w .1) a
 
@@ -53,6 +59,7 @@ module _ {A : Type 0} {X : Bytes → A → Type 0} where
       ahead : {b more : Bytes} {x : A} {y : B} → ((s : Bytes) → X s x → Y (c ∷ s) y) → Span X b x more → Span Y (c ∷ b) y more
       ahead f v = record { front = c ∷ v .front; splits = ap (λ (l : Bytes). c ∷ l) (v .splits); text = f (v .front) (v .text) }
 
+      -- and so where reading stops
       ahead-stop : {b more : Bytes} {s : Stop} → ((u : Bytes) (x : A) → X u x → (y : B) × Y (c ∷ u) y) → Heard X b (stopped s more) → Heard Y (c ∷ b) (stopped s more)
       ahead-stop f (begun {x = x} u t e w a) = begun (c ∷ u) t (ap (λ (l : Bytes). c ∷ l) e) (f (u ++ t) x w .1) a
 
@@ -62,10 +69,12 @@ module _ {A : Type 0} {X : Bytes → A → Type 0} where
       closed f v = record { front = c ∷ v .front ++ d ∷ []; splits = rw (v .splits, append-assoc); text = f (v .front) (v .text) }
 
       module _ {b more : Bytes} (f : (u : Bytes) (x : A) → X u x → (y : B) × Y (c ∷ u ++ d ∷ []) y) where
+        -- and so where reading stops: the bracket may be closed later
         closed-stop : {s : Stop} → Heard X b (stopped s more) → Heard Y (c ∷ b) (stopped s more)
         closed-stop (begun {x = x} u t e w a) =
             begun (c ∷ u) (t ++ d ∷ []) (ap (λ (l : Bytes). c ∷ l) e) (rw append-assoc at (f (u ++ t) x w .1)) (longer (d ∷ []) a)
 
+        -- a text that stands where a closing bracket would do
         unclosed : {x : A} → Span X b x more → Heard Y (c ∷ b) (stopped broken more)
         unclosed {x} v = begun (c ∷ v .front) (d ∷ []) (ap (λ (l : Bytes). c ∷ l) (v .splits)) (f (v .front) x (v .text) .1) anything
 
@@ -75,6 +84,7 @@ module _ {A : Type 0} {X : Bytes → A → Type 0} where
       join f v w =
           record { front = v .front ++ c ∷ w .front; splits = rw (v .splits, w .splits, append-assoc); text = f (v .front) (w .front) (v .text) (w .text) }
 
+      -- and so where reading stops in the second
       join-stop : {s : Stop} → ((s u : Bytes) (y : B) → X s x → Y u y → (z : C) × Z (s ++ c ∷ u) z) → Span X b x (c ∷ rest) → Heard Y rest (stopped s more) → Heard Z b (stopped s more)
       join-stop f v (begun {x = y} u t e w a) =
           let (z, text) = f (v .front) (u ++ t) y (v .text) w in
@@ -82,15 +92,16 @@ module _ {A : Type 0} {X : Bytes → A → Type 0} where
 
 -- a label's digits
 heard-label : {b : Bytes} {r : Result ℕ} → LabelReads b r → Heard LabelText b r
-heard-label (one-digit l h second) = whole (record { front = _; splits = refl; text = grammar.one-digit l h })
-heard-label (two-digits l h m) = whole (record { front = _; splits = refl; text = grammar.two-digits l h m })
-heard-label (no-digit {b = b} h) = begun [] (49 ∷ []) refl (grammar.one-digit {d = 1} (omega arith) (omega arith)) anything
+heard-label (one-digit {d = d} l h second) = exactly ((48 + d) ∷ []) (grammar.one-digit l h)
+heard-label (two-digits {d = d} {e = e} l h m) = exactly ((48 + d) ∷ (48 + e) ∷ []) (grammar.two-digits l h m)
+heard-label (no-digit h) = begun [] (49 ∷ []) refl (grammar.one-digit {d = 1} (omega arith) (omega arith)) anything
 
 -- stars behind an item
 heard-stars : {i : Path} {b : Bytes} {r : Result Path} → StarsRead i b r → {before : Bytes} → Span ItemText before i b → Heard ItemText before r
 heard-stars (one-more x) v = heard-stars x (record { front = v .front ++ 42 ∷ []; splits = rw (v .splits, append-assoc); text = grammar.starred (v .text) })
 heard-stars (no-more h) v = whole v
 
+-- Each kind of rule gets texts of its kind; a rule that goes on is given the text before it.
 module _ {limit : ℕ} where
   mutual
     pub heard-path : {n : ℕ} {b : Bytes} {r : Result Path} → PathReads limit n b r → Heard PathText b r
@@ -116,11 +127,11 @@ module _ {limit : ℕ} where
     heard-item (item-stops x) = lift-stop (λ s q w. (q, grammar.an-atom w)) (heard-atom x)
 
     heard-atom : {n : ℕ} {b : Bytes} {r : Result Path} → AtomReads limit n b r → Heard AtomText b r
-    heard-atom dot = whole (record { front = _; splits = refl; text = grammar.dot })
-    heard-atom letter-v = whole (record { front = _; splits = refl; text = grammar.letter-v })
-    heard-atom caret = whole (record { front = _; splits = refl; text = grammar.caret })
-    heard-atom greater = whole (record { front = _; splits = refl; text = grammar.greater })
-    heard-atom less = whole (record { front = _; splits = refl; text = grammar.less })
+    heard-atom dot = exactly (46 ∷ []) grammar.dot
+    heard-atom letter-v = exactly (118 ∷ []) grammar.letter-v
+    heard-atom caret = exactly (94 ∷ []) grammar.caret
+    heard-atom greater = exactly (62 ∷ []) grammar.greater
+    heard-atom less = exactly (60 ∷ []) grammar.less
     heard-atom (square l x) = whole (closed 93 (λ s w. grammar.square w) (span (heard-filter x)))
     heard-atom (square-open l x h) = unclosed 93 (λ s f w. (_, grammar.square w)) (span (heard-filter x))
     heard-atom (square-stops l x) = closed-stop 93 (λ s f w. (_, grammar.square w)) (heard-filter x)
@@ -152,8 +163,8 @@ module _ {limit : ℕ} where
     heard-term : {n : ℕ} {b : Bytes} {r : Result Filter} → TermReads limit n b r → Heard TermText b r
     heard-term (exclamation x) = whole (ahead (λ s w. grammar.exclamation w) (span (heard-term x)))
     heard-term (exclamation-stops x) = ahead-stop (λ s f w. (_, grammar.exclamation w)) (heard-term x)
-    heard-term letter-t = whole (record { front = _; splits = refl; text = grammar.letter-t })
-    heard-term letter-f = whole (record { front = _; splits = refl; text = grammar.letter-f })
+    heard-term letter-t = exactly (116 ∷ []) grammar.letter-t
+    heard-term letter-f = exactly (102 ∷ []) grammar.letter-f
     heard-term (hash x) = whole (ahead (λ s w. grammar.hash w) (span (heard-label x)))
     heard-term (hash-stops x) = ahead-stop (λ s l w. (_, grammar.hash w)) (heard-label x)
     heard-term (curly l x) = whole (closed 125 (λ s w. grammar.curly w) (span (heard-filter x)))

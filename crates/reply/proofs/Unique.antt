@@ -3,15 +3,15 @@
 use Prim.Native.Nat.{ℕ, pred, _≤_, _<_}
 use native.Mathlib.Omega.{arith}
 use mathlib.Core.Path.{_≡_, refl, sym, ap, ap₂, _∙_, subst}
-use mathlib.Core.List.{[], _∷_}
-use lib.ListN.{length, getD}
+use mathlib.Core.List.{[], _∷_, _++_}
+use lib.ListN.{length, getD, drop}
 use Rattle.reply.specs.declared.Reason.{Reason}
 use Rattle.reply.specs.declared.Reason.the-variants.{ShortRoom, RollLength, NodeLabel, SecondByte, ParentField, AnnotationLength, FilterLength, EntryMalformed, EntryHeight, AnnotationRecord, PairOrder, QueryTable, TextLength, NotInGrammar, TooManyOpen, TableTooLarge, FileUnreadable}
 use Rattle.reply.specs.declared.Refusal.{Refusal}
 use Rattle.reply.specs.declared.Reply.{Reply}
 use Rattle.reply.specs.declared.Reply.the-variants.{Count, Refused}
 use Rattle.reply.specs.Reply.{number, Said, count, refused, said}
-use Rattle.reply.specs.Bytes.{Bytes}
+use Rattle.reply.specs.Bytes.{Bytes, Written}
 use Rattle.reply.specs.Outcome.{Lowest, InTurn, first, behind, Outcome, done, short, turned-away, Checked}
 
 -- an input has at most one fault
@@ -44,9 +44,9 @@ in-turn-wrong wrong rest n p (behind r a) g = rest n p a (g .1)
 
 -- two outcomes of one call on the same inputs and bytes are one
 pub outcome-one : {room : ℕ} {Right : Type 0} {Fault : ℕ → ℕ → Type 0} {Done : ℕ → Bytes → Type 0} {before : Bytes}
-    → Wrong Right Fault → OneFault Fault → ((c d : ℕ) (x y : Bytes) → Done c x → Done d y → (c ≡ d) × (x ≡ y))
+    → Wrong Right Fault → OneFault Fault → (Right → (c d : ℕ) (x y : Bytes) → Done c x → Done d y → (c ≡ d) × (x ≡ y))
     → {s u : Said} {x y : Bytes} → Outcome room Right Fault Done before s x → Outcome room Right Fault Done before u y → (s ≡ u) × (x ≡ y)
-outcome-one wrong one same (done {c = c} {after = x} r g d) (done {c = c′} {after = y} r′ g′ d′) = let (e, f) = same c c′ x y d d′ in (ap count e, f)
+outcome-one wrong one same (done {c = c} {after = x} r g d) (done {c = c′} {after = y} r′ g′ d′) = let (e, f) = same g c c′ x y d d′ in (ap count e, f)
 outcome-one wrong one same (done r g d) (short s) = absurd (omega arith)
 outcome-one wrong one same (done r g d) (turned-away {n = n} {p = p} r′ f) = absurd (wrong n p f g)
 outcome-one wrong one same (short s) (done r g d) = absurd (omega arith)
@@ -56,10 +56,14 @@ outcome-one wrong one same (turned-away {n = n} {p = p} r f) (done r′ g d) = a
 outcome-one wrong one same (turned-away r f) (short s) = absurd (omega arith)
 outcome-one wrong one same (turned-away {n = n} {p = p} r f) (turned-away {n = m} {p = q} r′ f′) = let (e, g) = one n m p q f f′ in (ap₂ refused e g, refl)
 
+-- what is written of the same bytes is the same
+pub written-one : {before front front′ after after′ : Bytes} → Written before front after → Written before front′ after′ → front ≡ front′ → after ≡ after′
+written-one {before} a b e = a .bytes ∙ ap (λ (f : Bytes). f ++ drop (length f) before) e ∙ sym (b .bytes)
+
 -- a check says one thing
 pub checked-one : {Right : Type 0} {Fault : ℕ → ℕ → Type 0} {size : ℕ} → Wrong Right Fault → OneFault Fault
     → {s u : Said} → Checked Right Fault size s → Checked Right Fault size u → s ≡ u
-checked-one wrong one x y = outcome-one wrong one (λ c d x y e f. (e .0 ∙ sym (f .0), e .1 ∙ sym (f .1))) x y .0
+checked-one wrong one x y = outcome-one wrong one (λ right c d x y e f. (e .0 ∙ sym (f .0), e .1 ∙ sym (f .1))) x y .0
 
 -- the reason that a number stands for
 reasonOf : ℕ → Reason

@@ -1,5 +1,8 @@
 // A reply carries either a count or a refusal's number with its place.
 // Which number a reason has is said in specs/Reply.antt.
+ghost use mathlib.Core.Path.{_≡_};
+ghost use Rattle.reply.specs.Reply.{number, refused, said};
+
 // Why a call refuses: one case for each row of the list of refusals.
 pub enum Reason {
     ShortRoom,
@@ -29,4 +32,36 @@ pub struct Refusal {
 pub enum Reply {
     Count(usize),
     Refused(Refusal),
+}
+
+// The refusal for a reason, at a place.
+pub fn refuse(reason: Reason, place: usize) -> Reply
+    ensures { λ r. ⌜ said r ≡ refused (number reason) place ⌝ }
+{
+    Reply::Refused(Refusal { reason, place })
+}
+
+// The number of a reason, as the list of refusals has it. A reason is matched here and nowhere else.
+pub fn number_of(reason: Reason) -> u64
+    ensures { λ r. ⌜ r ≡ number reason ⌝ }
+{
+    match reason {
+        Reason::ShortRoom => 1,
+        Reason::RollLength => 2,
+        Reason::NodeLabel => 3,
+        Reason::SecondByte => 4,
+        Reason::ParentField => 5,
+        Reason::AnnotationLength => 6,
+        Reason::FilterLength => 7,
+        Reason::EntryMalformed => 8,
+        Reason::EntryHeight => 9,
+        Reason::AnnotationRecord => 10,
+        Reason::PairOrder => 11,
+        Reason::QueryTable => 12,
+        Reason::TextLength => 13,
+        Reason::NotInGrammar => 14,
+        Reason::TooManyOpen => 15,
+        Reason::TableTooLarge => 16,
+        Reason::FileUnreadable => 17,
+    }
 }

@@ -9,7 +9,8 @@ use Rattle.reply.specs.Bytes.{Bytes}
 use Rattle.tree.specs.Tree.{Tree, labelAt, parentAt, InOrder}
 use Rattle.tree.proofs.Tests.{all, all-at, everyBelow, every-below}
 use Rattle.tree.proofs.Deciding.{isAbove, is-above}
-use Rattle.roll.specs.Roll.{none, nodes, secondByte, ParentRule, NodeRight, RollLength, Roll}
+use Rattle.roll.specs.Roll.{none, nodes, secondByte, ParentRule, NodeRight, Roll}
+use Rattle.roll.proofs.Records.{count-nodes}
 
 unfoldable pub hasParent : Tree → ℕ → Bool
 hasParent t zero = eqb (parentAt t 0) none
@@ -58,12 +59,4 @@ roll-in-order r i l = r .node (suc i) l .parent
 
 -- a roll has a root
 pub roll-root : {b : Bytes} → Roll b → 0 < length (nodes b)
-unfolding nodes
-roll-root {b} r = go b (r .size)
-  where
-    go : (b : Bytes) → RollLength b → 0 < length (nodes b)
-    go [] s = s .some
-    go (x ∷ []) s = absurd (omega (arith, s .size .multiple))
-    go (x ∷ y ∷ []) s = absurd (omega (arith, s .size .multiple))
-    go (x ∷ y ∷ z ∷ []) s = absurd (omega (arith, s .size .multiple))
-    go (x ∷ y ∷ z ∷ w ∷ more) s = omega arith
+roll-root {b} r = omega (arith, count-nodes b)

@@ -1,12 +1,10 @@
 -- A roll has at most one fault, so two replies that fit call 1, and two parts that fit call 7, are equal. Assumes nothing.
-use Prim.Native.Nat.{ℕ, _*_, _<_}
+use Prim.Native.Nat.{ℕ, _*_}
 use native.Mathlib.Omega.{arith}
 use mathlib.Core.Path.{_≡_, refl, ap}
-use lib.ListN.{length}
 use lib.Seq.{slice}
 use Rattle.reply.specs.Reply.{Said}
 use Rattle.reply.specs.Bytes.{Bytes}
-use Rattle.reply.specs.Outcome.{Lowest}
 use Rattle.reply.proofs.Unique.{OneFault, Wrong, lowest-one, checked-one}
 use Rattle.tree.proofs.Runs.{run-ends-unique}
 use Rattle.roll.specs.Roll.{nodes, NodeRight, NodeFault, label, second, parent, Roll, RollFault, bad-length, bad-node}

@@ -1,2 +1,3 @@
 pub mod Roll
 pub mod Promise
+pub mod Sibling

@@ -19,6 +19,11 @@ module _ (t : Tree) where
   pub child-above : {p i : ℕ} → Child t p i → Above t p i
   child-above {p} {i} c = up (c .later) (rw (c .parent) here)
 
+  -- a proper ancestor is above the parent
+  pub above-up : {a i : ℕ} → Above t a i → ¬ (a ≡ i) → (0 < i) × Above t a (parentAt t i)
+  above-up here n = absurd (n refl)
+  above-up (up z x) n = (z, x)
+
   -- whether i is a child of p
   pub dec-child : (p i : ℕ) → Dec (Child t p i)
   dec-child p i =
@@ -26,29 +31,58 @@ module _ (t : Tree) where
       (λ c. (c .later, (c .node, c .parent)))
       (Dec·and (decLt 0 i) (Dec·and (decLt i (length t)) (ℕ-discrete (parentAt t i) p)))
 
-module _ (t : Tree) (o : InOrder t) where
-  -- below n, an ancestor is no greater: by induction on n, since the parent of i + 1 is above i
-  le-upto : (n p i : ℕ) → i < n → i < length t → Above t p i → p ≤ i
-  unfolding InOrder
-  le-upto zero p i b l a = absurd (omega arith)
-  le-upto (suc n) p i b l here = le-refl i
-  le-upto (suc n) p zero b l (up z a) = absurd (omega arith)
-  le-upto (suc n) p (suc i) b l (up z a) =
-      let h : parentAt t (suc i) ≤ i = le-upto n (parentAt t (suc i)) i (omega arith) (omega arith) (o i l) in
-      let k : p ≤ parentAt t (suc i) = le-upto n p (parentAt t (suc i)) (omega arith) (omega arith) a in
+  -- the first n records are in document order
+  abbrev pub InOrderTo : ℕ → Type 0
+  InOrderTo n = (i : ℕ) → suc i < n → Above t (parentAt t (suc i)) i
+
+module _ (t : Tree) (n : ℕ) (o : InOrderTo t n) where
+  -- below m, an ancestor is no greater: by induction on m, since the parent of i + 1 is above i
+  le-below : (m p i : ℕ) → i < m → i < n → Above t p i → p ≤ i
+  le-below zero p i b l a = absurd (omega arith)
+  le-below (suc m) p i b l here = le-refl i
+  le-below (suc m) p zero b l (up z a) = absurd (omega arith)
+  le-below (suc m) p (suc i) b l (up z a) =
+      let h : parentAt t (suc i) ≤ i = le-below m (parentAt t (suc i)) i (omega arith) (omega arith) (o i l) in
+      let k : p ≤ parentAt t (suc i) = le-below m p (parentAt t (suc i)) (omega arith) (omega arith) a in
       omega arith
 
+  -- among them, an ancestor is no greater
+  pub above-le-to : {p i : ℕ} → i < n → Above t p i → p ≤ i
+  above-le-to {p} {i} l a = le-below (suc i) p i (le-refl (suc i)) l a
+
+  -- a parent is smaller
+  pub parent-smaller-to : (i : ℕ) → 0 < i → i < n → parentAt t i < i
+  parent-smaller-to zero z l = absurd (omega arith)
+  parent-smaller-to (suc i) z l =
+      let h : parentAt t (suc i) ≤ i = above-le-to (omega arith) (o i l) in
+      omega arith
+
+  -- and of two nodes above one node, the lesser is above the greater
+  pub above-linear-to : {a b i : ℕ} → i < n → Above t a i → Above t b i → a ≤ b → Above t a b
+  above-linear-to l x here h = x
+  above-linear-to {a} {b} l here (up z y) h =
+      let s = parent-smaller-to a z l in
+      let g : b ≤ parentAt t a = above-le-to (omega arith) y in
+      absurd (omega arith)
+  above-linear-to {a} {b} {i} l (up w x) (up z y) h =
+      let s = parent-smaller-to i z l in
+      above-linear-to (omega arith) x y h
+
+module _ (t : Tree) (o : InOrder t) where
   -- an ancestor is no greater
   pub above-le : {p i : ℕ} → i < length t → Above t p i → p ≤ i
-  above-le {p} {i} l a = le-upto (suc i) p i (le-refl (suc i)) l a
+  unfolding InOrder
+  above-le = above-le-to t (length t) o
 
   -- "parents are smaller"
   pub parent-smaller : (i : ℕ) → 0 < i → i < length t → parentAt t i < i
   unfolding InOrder
-  parent-smaller zero z l = absurd (omega arith)
-  parent-smaller (suc i) z l =
-      let h : parentAt t (suc i) ≤ i = above-le (omega arith) (o i l) in
-      omega arith
+  parent-smaller = parent-smaller-to t (length t) o
+
+  -- of two nodes above one node, the lesser is above the greater
+  pub above-linear : {a b i : ℕ} → i < length t → Above t a i → Above t b i → a ≤ b → Above t a b
+  unfolding InOrder
+  above-linear = above-linear-to t (length t) o
 
   -- an ancestor of a node is a node
   pub above-node : {p i : ℕ} → i < length t → Above t p i → p < length t
@@ -66,21 +100,9 @@ module _ (t : Tree) (o : InOrder t) where
   pub child-node : {p i : ℕ} → Child t p i → p < length t
   child-node c = above-node (c .node) (child-above t c)
 
-  -- a proper ancestor is above the parent
+  -- a proper ancestor of a node is above its parent
   pub above-parent : {a i : ℕ} → i < length t → Above t a i → ¬ (a ≡ i) → (p : ℕ) × Child t p i × Above t a p
-  above-parent l here n = absurd (n refl)
-  above-parent {a} {i} l (up z x) n = (parentAt t i, record { later = z; node = l; parent = refl }, x)
-
-  -- of two nodes above one node, the lesser is above the greater
-  pub above-linear : {a b i : ℕ} → i < length t → Above t a i → Above t b i → a ≤ b → Above t a b
-  above-linear l x here h = x
-  above-linear {a} {b} l here (up z y) h =
-      let s = parent-smaller a z l in
-      let g : b ≤ parentAt t a = above-le (omega arith) y in
-      absurd (omega arith)
-  above-linear {a} {b} {i} l (up w x) (up z y) h =
-      let s = parent-smaller i z l in
-      above-linear (omega arith) x y h
+  above-parent {a} {i} l a-above n = let (z, x) = above-up t a-above n in (parentAt t i, record { later = z; node = l; parent = refl }, x)
 
   -- the root is above every node
   pub root-above : (i : ℕ) → i < length t → Above t 0 i

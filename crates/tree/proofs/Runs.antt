@@ -115,6 +115,16 @@ module _ (t : Tree) (o : InOrder t) where
         outside = λ j r. (above-le t o (r .node) (r .below), behind-run j (r .node) (r .below));
       }
 
+  -- where the first record behind k stands whose parent comes before k, there the run of k ends; where there is none, it ends with the last node
+  pub run-ends-at : {k e : ℕ} → k < length t → k < e → e ≤ length t → ((j : ℕ) → j < e → k < j → k ≤ parentAt t j) → (e < length t → parentAt t e < k)
+      → RunEnds t k e
+  run-ends-at {k} {e} l low high inside outside =
+      let b = end-behind k l in
+      let not-less : ¬ (e < end t k) = λ h. let g = parent-inside k e low h in let x = outside (omega arith) in omega arith in
+      let not-more : ¬ (end t k < e) = λ h. let g = inside (end t k) h (b .0) in let x = parent-outside k (omega arith) in omega arith in
+      let same : e ≡ end t k = omega arith in
+      rw same (end-runs k l)
+
   -- of two ends of one run, the first is no greater
   run-ends-le : {k e e′ : ℕ} → RunEnds t k e → RunEnds t k e′ → k < length t → e ≤ e′
   run-ends-le {k} {e} {e′} r r′ l =
@@ -129,6 +139,10 @@ module _ (t : Tree) (o : InOrder t) where
   -- a run has one end
   pub run-ends-unique : {k e e′ : ℕ} → RunEnds t k e → RunEnds t k e′ → k < length t → e ≡ e′
   run-ends-unique r r′ l = le-antisymm (run-ends-le r r′ l) (run-ends-le r′ r l)
+
+  -- that end is behind the node, and at most the number of nodes
+  pub run-ends-behind : {k e : ℕ} → k < length t → RunEnds t k e → (k < e) × (e ≤ length t)
+  run-ends-behind {k} l r = rw (run-ends-unique r (end-runs k l) l) (end-behind k l)
 
   -- the run of a node ends no later than the run of an ancestor
   pub above-end : {a b : ℕ} → b < length t → Above t a b → end t b ≤ end t a

@@ -8,6 +8,7 @@ use mathlib.Core.Bool.{Bool, true, false, cond, not, _&&_, _||_}
 use mathlib.Core.List.{List, [], _∷_}
 use lib.ListN.{getD}
 use lib.Dec.{T, T-not, not-T, ltb, eqb, ltb→lt, lt→ltb, eqb→eq, eqb-refl}
+use borrow.Author.Tests.{not-false}
 use mir.Facts.{and-yes, yes-and, or-yes}
 
 -- the test passes exactly where the statement holds
@@ -50,6 +51,14 @@ module _ {b : Bool} {A : Type 0} (test : Decides b A) where
 pub decided : {b : Bool} {A : Type 0} → Decides b A → Dec A
 decided {b = true} test = yes (test .exact .0 tt)
 decided {b = false} test = no (test .exact .1)
+
+-- what a branch on a negated test tells of the statement, where it turns away
+pub test-failed : (b : Bool) {A : Type 0} → T b ↔ A → not b ≡ true → ¬ A
+test-failed b exact e a = T-not b (subst T (sym e) tt) (exact .1 a)
+
+-- and where it lets on
+pub test-passed : (b : Bool) {A : Type 0} → T b ↔ A → not b ≡ false → A
+test-passed b exact e = exact .0 (subst T (sym (not-false b e)) tt)
 
 -- what holds of both branches holds of a choice by a test
 pub choice : {A : Type 0} (P : A → Type 0) (b : Bool) (x y : A) → (T b → P x) → (T (not b) → P y) → P (cond b x y)

@@ -156,3 +156,12 @@ module _ (t : Tree) (rules : List Rule) where
         go : Dec (i < length t) → Dec (Visible t rules i)
         go (yes l) = decided {b = getD seen i false} (record { exact = seen-right i l })
         go (no n) = no (λ v. n (visible-node some v))
+
+-- "With no records, everything is visible."
+pub all-visible : (t : Tree) (o : InOrder t) (n i : ℕ) → i < n → i < length t → Visible t [] i
+all-visible t o zero i k l = absurd (omega arith)
+all-visible t o (suc n) zero k l = root
+all-visible t o (suc n) (suc i) k l =
+    let s : parentAt t (suc i) < suc i = parent-smaller t o (suc i) (omega arith) l in
+    let child : Child t (parentAt t (suc i)) (suc i) = record { later = omega arith; node = l; parent = refl } in
+    inherits child (λ f r. List·Memᴰ·not-nil r) (all-visible t o n (parentAt t (suc i)) (omega arith) (omega arith))

@@ -4,3 +4,4 @@ pub mod Carried
 pub mod Order
 pub mod Deciding
 pub mod Cutting
+pub mod Unique

@@ -1,0 +1,114 @@
+// The checks of calls that take several inputs, in the order: room, roll, filter table, annotation, query.
+// `room` is the length of the lent output.
+use crate::check::check_annotation;
+use reply::Reason;
+use reply::Reply;
+use reply::refuse;
+use roll::check_roll;
+use tables::check::check_filters;
+use tables::check::check_query;
+use tables::limits::ANSWER_ENTRIES;
+use tables::limits::ANSWER_HEIGHT;
+use tables::limits::CURATOR_ENTRIES;
+use tables::limits::CURATOR_HEIGHT;
+ghost use Rattle.reply.specs.Reply.{said};
+ghost use Rattle.checks.specs.Checks.{AnnotatedChecked, AskedChecked};
+ghost use Rattle.checks.specs.Ready.{ReadyToAnswer, ReadyToCut, ReadyToRewrite, ReadyForCurator};
+
+// "an answer's bitmap; room 512 bytes"
+const BITMAP: usize = 512;
+
+// "Rewrite; room 6,144 bytes"
+const REWRITTEN: usize = 6144;
+
+// The filter table, then the annotation: the number of records.
+fn check_annotated(annotation: &[u8], filters: &[u8]) -> Reply
+    ensures { λ r. ⌜ AnnotatedChecked (now (annotation .entry)) (now (filters .entry)) (said r) ⌝ }
+{
+    let entries = check_filters(filters);
+    let Reply::Count(_) = entries else {
+        return entries;
+    };
+    check_annotation(annotation, filters)
+}
+
+// The filter table, the annotation, then the curator's query: its number of entries.
+fn check_asked(annotation: &[u8], filters: &[u8], query: &[u8]) -> Reply
+    ensures { λ r. ⌜ AskedChecked (now (annotation .entry)) (now (filters .entry)) (now (query .entry)) (said r) ⌝ }
+{
+    let records = check_annotated(annotation, filters);
+    let Reply::Count(_) = records else {
+        return records;
+    };
+    check_query(query, CURATOR_ENTRIES, CURATOR_HEIGHT)
+}
+
+// Call 3: the number of nodes.
+pub fn ready_to_answer(room: usize, roll: &[u8], query: &[u8]) -> Reply
+    ensures { λ r. ⌜ ReadyToAnswer room (now (roll .entry)) (now (query .entry)) (said r) ⌝ }
+{
+    if room < BITMAP {
+        return refuse(Reason::ShortRoom, 0);
+    }
+    let nodes = check_roll(roll);
+    let Reply::Count(_) = nodes else {
+        return nodes;
+    };
+    let rest = check_query(query, ANSWER_ENTRIES, ANSWER_HEIGHT);
+    let Reply::Count(_) = rest else {
+        return rest;
+    };
+    nodes
+}
+
+// Call 4: the number of nodes.
+pub fn ready_to_cut(room: usize, roll: &[u8], annotation: &[u8], filters: &[u8]) -> Reply
+    ensures { λ r. ⌜ ReadyToCut room (now (roll .entry)) (now (annotation .entry)) (now (filters .entry)) (said r) ⌝ }
+{
+    if room < roll.len() {
+        return refuse(Reason::ShortRoom, 0);
+    }
+    let nodes = check_roll(roll);
+    let Reply::Count(_) = nodes else {
+        return nodes;
+    };
+    let rest = check_annotated(annotation, filters);
+    let Reply::Count(_) = rest else {
+        return rest;
+    };
+    nodes
+}
+
+// Call 5: the number of entries of the query.
+pub fn ready_to_rewrite(room: usize, annotation: &[u8], filters: &[u8], query: &[u8]) -> Reply
+    ensures { λ r. ⌜ ReadyToRewrite room (now (annotation .entry)) (now (filters .entry)) (now (query .entry)) (said r) ⌝ }
+{
+    if room < REWRITTEN {
+        return refuse(Reason::ShortRoom, 0);
+    }
+    check_asked(annotation, filters, query)
+}
+
+// Call 6: the number of nodes.
+pub fn ready_for_curator(
+    room: usize,
+    roll: &[u8],
+    annotation: &[u8],
+    filters: &[u8],
+    query: &[u8],
+) -> Reply
+    ensures { λ r. ⌜ ReadyForCurator room (now (roll .entry)) (now (annotation .entry)) (now (filters .entry)) (now (query .entry)) (said r) ⌝ }
+{
+    if room < BITMAP {
+        return refuse(Reason::ShortRoom, 0);
+    }
+    let nodes = check_roll(roll);
+    let Reply::Count(_) = nodes else {
+        return nodes;
+    };
+    let rest = check_asked(annotation, filters, query);
+    let Reply::Count(_) = rest else {
+        return rest;
+    };
+    nodes
+}

@@ -1,0 +1,100 @@
+-- What the rules of reading come to, in the words of call 2's promise. Assumes nothing.
+use Prim.Native.Nat.{ℕ, suc, _+_, _-_, _≤_, _<_}
+use native.Mathlib.Omega.{arith}
+use mathlib.Core.Path.{_≡_, refl, sym, ap, _∙_}
+use mathlib.Core.Logic.{⊎-elim}
+use mathlib.Core.List.{[], _∷_, _++_, append-nil}
+use lib.Dec.{T}
+use lib.ListN.{length, getD, take, length-append, List·getD-append}
+use lib.Seq.{append-snoc, take-append-le, take-at, getD-at}
+use Rattle.reply.specs.Bytes.{Bytes}
+use Rattle.query.specs.Syntax.{Path}
+use Rattle.text.specs.Grammar.{PathText}
+use Rattle.text.specs.Written.{tableOf}
+use Rattle.text.specs.Promise.{TextLength, Breaks, opening, closing, howMany, OneTooMany, Fits, TextFault, too-deep, too-large, TextOf}
+use Rattle.text.specs.Promise as promise
+use Rattle.reading.proofs.Rules.{Result, got, stopped, PathReads}
+use Rattle.reading.proofs.Rules as rules
+use Rattle.reading.proofs.Sound.{Span, bracket, Heard, whole, begun, heard-path}
+use Rattle.reading.proofs.Machine.{top, State, start, depth, behind-path, Moves}
+use Rattle.reading.proofs.Led.{Here, Led, led, broke, deepened, led-path}
+use Rattle.reading.proofs.Depth.{passes}
+use Rattle.reading.proofs.Place.{path-unique, begins, breaks}
+
+-- What is true of a text that is read so.
+pub data Judged (text : Bytes) : Result Path → Type 0 where
+  read : {p : Path} → PathText text p → ((k : ℕ) → ¬ OneTooMany text k) → Judged text (got p [])
+  not-whole : {p : Path} {c : ℕ} {more : Bytes} → TextFault text 14 (length text - suc (length more)) → Judged text (got p (c ∷ more))
+  broken : {more : Bytes} → TextFault text 14 (length text - length more) → Judged text (stopped rules.broken more)
+  deep : {more : Bytes} → TextFault text 15 (length text - length more) → Judged text (stopped rules.deep more)
+
+module _ {text : Bytes} {τ : State} where
+  -- no bracket that the machine has passed over is one too many
+  none-before : {more : Bytes} → Moves 32 start text τ more → (k : ℕ) → k < length text - length more → ¬ OneTooMany text k
+  none-before {more} m k l o =
+      let f = passes m in
+      let size : length text ≡ length (f .front) + length more = ap length (f .splits) ∙ length-append (f .front) more in
+      let within : k < length (f .front) = omega arith in
+      let same : take k text ≡ take k (f .front) = ap (take k) (f .splits) ∙ take-append-le k (f .front) more (omega arith) in
+      let byte : getD text k 0 ≡ getD (f .front) k 0 = ap (λ (b : Bytes). getD b k 0) (f .splits) ∙ List·getD-append (f .front) more 0 k within in
+      let already-open : howMany opening (take k (f .front)) ≡ howMany closing (take k (f .front)) + 32 = rw same at (o .already) in
+      let room = f .shallow k within (rw byte at (o .bracket)) in
+      omega arith
+
+  -- a bracket met while 32 are open is one too many
+  one-too-many : {c : ℕ} {more : Bytes} → Moves 32 start text τ (c ∷ more) → T (opening c) → 32 ≤ depth τ → OneTooMany text (length text - suc (length more))
+  one-too-many {c} {more} m o l =
+      let f = passes m in
+      let s : Bytes = f .front in
+      let size : length text ≡ length s + suc (length more) = ap length (f .splits) ∙ length-append s (c ∷ more) in
+      let i : ℕ = length text - suc (length more) in
+      let reached : length s ≡ i = omega arith in
+      let byte : getD text i 0 ≡ c = ap (λ (b : Bytes). getD b i 0) (f .splits) ∙ getD-at s c more 0 i reached in
+      let front : take i text ≡ s = ap (take i) (f .splits) ∙ take-at s (c ∷ more) i reached in
+      let low : depth τ ≤ 32 = f .low (omega arith) in
+      record { within = omega arith; bracket = rw byte o; already = rw front (omega (arith, f .balanced)) }
+
+-- a text whose bracket is one too many goes on with it
+module _ {text : Bytes} where
+  not-broken : {p : Path} (u : Bytes) (c : ℕ) (t more : Bytes) → text ≡ u ++ c ∷ more → PathText (u ++ c ∷ t) p → (k : ℕ) → k ≤ length text - suc (length more) → ¬ Breaks text k
+  not-broken {p} u c t more e x k l b =
+      let size : length text ≡ length u + suc (length more) = ap length e ∙ length-append u (c ∷ more) in
+      ⊎-elim (λ h. omega arith) (λ h. h .1 (begins {p = p} (u ++ c ∷ []) t more (e ∙ sym (append-snoc u c more)) (rw append-snoc x) (suc k) (rw length-append (omega arith)))) (b .stops)
+
+-- What reading says of a text, by what it comes to.
+pub judged : {text : Bytes} {r : Result Path} → TextLength text → PathReads 32 0 text r → Judged text r
+judged {text} length-right x = go (heard-path x) (led-path x top refl)
+  where
+    got-some : {p : Path} {τ : State} (more : Bytes) → Span PathText text p more → Moves 32 start text τ more → Here τ (behind-path top p) more → Judged text (got p more)
+    got-some {p} [] v m h = read {p = p} (rw (v .splits, append-nil) (v .text)) (λ k o. let l : k < length text = o .within in none-before m k (omega arith) o)
+    got-some {p} (c ∷ more) v m h = not-whole (promise.breaks length-right (breaks {p = p} (v .front) [] m (h .now) (v .splits) (rw append-nil (v .text))) (none-before m))
+
+    go : {r : Result Path} → Heard PathText text r → Led 32 start text (behind-path top) r → Judged text r
+    go (whole v) (led {more = more} m h) = got-some more v m h
+    go (begun u t e w a) (broke m h) = broken (promise.breaks length-right (breaks u t m (h .now) e w) (none-before m))
+    go (begun u t e w (bracket {c = c} {more = more} {t = t′})) (deepened m g o l) = deep (too-deep length-right (one-too-many m o l) (none-before m) (not-broken u c t′ more e w))
+
+module _ {text : Bytes} {p : Path} (length-right : TextLength text) where
+  -- a text that is read whole is one of its path, if its table fits
+  pub read-whole : Judged text (got p []) → Fits (tableOf p) → TextOf p text
+  read-whole (read x shallow) fits = record { length = length-right; path = x; shallow = shallow; fits = fits }
+
+  -- and otherwise its table is too large
+  pub read-too-large : Judged text (got p []) → ¬ Fits (tableOf p) → TextFault text 16 0
+  read-too-large (read x shallow) unfit = too-large length-right x shallow unfit
+
+-- a text of a path is read as that path, unless a bracket in it is one too many
+pub read-as : {text : Bytes} {p : Path} {r : Result Path} → TextLength text → PathText text p → ((k : ℕ) → ¬ OneTooMany text k) → PathReads 32 0 text r → r ≡ got p []
+read-as {text} {p} length-right x shallow y = go (judged length-right y)
+  where
+    unbroken : {i : ℕ} → ¬ TextFault text 14 i
+    unbroken (promise.breaks l b s) = b .no-path p x
+
+    undeep : {i : ℕ} → ¬ TextFault text 15 i
+    undeep (too-deep {i = i} l o s b) = shallow i o
+
+    go : {r : Result Path} → Judged text r → r ≡ got p []
+    go (read {p = q} z s) = ap (λ (o : Path). got o []) (path-unique text q p z x)
+    go (not-whole f) = absurd (unbroken f)
+    go (broken f) = absurd (unbroken f)
+    go (deep f) = absurd (undeep f)

@@ -1,0 +1,265 @@
+-- Where the rules of reading come to a result, the machine comes to a state that takes just what may stand behind it. Assumes nothing.
+use Prim.Native.Nat.{ℕ, suc, _+_, _-_, _*_, _≤_, _<_}
+use native.Mathlib.Nat.{zero-add}
+use native.Mathlib.Omega.{arith}
+use mathlib.Core.Path.{_≡_, refl, ap, _∙_}
+use mathlib.Core.List.{List, [], _∷_, List·Memᴰ·head, List·Memᴰ·tail}
+use lib.Dec.{T}
+use Rattle.reply.specs.Bytes.{Bytes}
+use Rattle.query.specs.Syntax.{Path, Filter}
+use Rattle.query.specs.Syntax as syntax
+use Rattle.text.specs.Promise.{opening}
+use Rattle.reading.proofs.Rules.{NotAt, other, NoSecond, NoDigit, termBytes, Stop, broken, deep, Result, got, stopped, LabelReads, one-digit, two-digits, no-digit, StarsRead, one-more, no-more}
+use Rattle.reading.proofs.Rules.{PathReads, path, path-stops, PathGoesOn, bar, bar-stops, no-bar}
+use Rattle.reading.proofs.Rules.{SequenceReads, sequence, sequence-stops, SequenceGoesOn, slash, slash-stops, no-slash}
+use Rattle.reading.proofs.Rules.{ItemReads, item, item-stops, AtomReads, dot, letter-v, caret, greater, less, square, square-open, square-stops, square-deep, round, round-open, round-stops, round-deep, no-atom}
+use Rattle.reading.proofs.Rules.{FilterReads, filter, filter-stops, FilterGoesOn, plus, plus-stops, no-plus}
+use Rattle.reading.proofs.Rules.{ConjunctionReads, conjunction, conjunction-stops, ConjunctionGoesOn, ampersand, ampersand-stops, no-ampersand}
+use Rattle.reading.proofs.Rules.{TermReads, exclamation, exclamation-stops, letter-t, letter-f, hash, hash-stops, curly, curly-open, curly-stops, curly-deep, a-path, a-path-stops}
+use Rattle.reading.proofs.Rules as rules
+use Rattle.reading.proofs.NextByte.{unequal, digit-opens-nothing}
+use Rattle.reading.proofs.Machine as machine
+use Rattle.reading.proofs.Machine.{PathPlace, FilterPlace, in-round, in-filter, in-square, in-curly, State, label, Offers, nothing, on, digit, Digit, dec-digit, look, goes, offer, ons, bytes, atoms, terms, depth, path-depth, filter-depth, Moves, stays, moves}
+use Rattle.reading.proofs.Machine.{behind-filter, behind-conjunction, behind-term, behind-path, behind-sequence, behind-item}
+
+-- What a state takes is what is offered, as far as the next byte tells, and at the end of a text.
+pub record Here (σ : State) (offers : Offers) (b : Bytes) : Type 0 where
+  pub now : look (offer σ) b ≡ look offers b
+  pub at-end : look (offer σ) [] ≡ look offers []
+
+-- Where the machine comes to if reading comes to a result.
+pub data Led {A : Type 0} (limit : ℕ) (σ : State) (b : Bytes) (behind : A → Offers) : Result A → Type 0 where
+  led : {τ : State} {x : A} {more : Bytes} → Moves limit σ b τ more → Here τ (behind x) more → Led limit σ b behind (got x more)
+  broke : {τ : State} {more : Bytes} → Moves limit σ b τ more → Here τ nothing more → Led limit σ b behind (stopped broken more)
+  deepened : {τ ω : State} {c : ℕ} {more : Bytes} → Moves limit σ b τ (c ∷ more) → look (offer τ) (c ∷ more) ≡ goes ω → T (opening c) → limit ≤ depth τ → Led limit σ b behind (stopped deep (c ∷ more))
+
+-- a byte that is not next is passed over
+skip : {c : ℕ} {these : List ℕ} {b : Bytes} (σ : State) (o : Offers) → NotAt (c ∷ these) b → look (on c σ o) b ≡ look o b
+skip σ o rules.ended = refl
+skip σ o (other h) = rw (unequal (λ e. h (List·Memᴰ·head e)), look)
+
+-- of fewer bytes, none is next either
+not-at-rest : {c : ℕ} {these : List ℕ} {b : Bytes} → NotAt (c ∷ these) b → NotAt these b
+not-at-rest rules.ended = rules.ended
+not-at-rest (other h) = other (λ m. h (List·Memᴰ·tail m))
+
+-- all that are not next are passed over
+skip-all : {b : Bytes} (l : List (ℕ × State)) (o : Offers) → NotAt (bytes l) b → look (ons l o) b ≡ look o b
+skip-all [] o h = refl
+skip-all (x ∷ l) o h = skip (x .1) (ons l o) h ∙ skip-all l o (not-at-rest h)
+
+-- a digit that makes a label is taken
+digit-taken : (l e : ℕ) (b : Bytes) (f : ℕ → State) (o : Offers) → e ≤ 9 → 1 ≤ 10 * l + e → 10 * l + e ≤ 64 → look (digit l f o) ((48 + e) ∷ b) ≡ goes (f (10 * l + e))
+digit-taken l e b f o h k m = go (dec-digit l (48 + e)) refl
+  where
+    value : 48 + e - 48 ≡ e
+    value = omega arith
+
+    go : (x : Dec (Digit l (48 + e))) → dec-digit l (48 + e) ≡ x → look (digit l f o) ((48 + e) ∷ b) ≡ goes (f (10 * l + e))
+    go (yes y) q = rw (q, look, value)
+    go (no n) q = absurd (n (record { least = omega arith; most = omega arith; some = rw value k; label = rw value m }))
+
+-- and opens no bracket
+quiet : {A : Type 0} (e : ℕ) → e ≤ 9 → T (opening (48 + e)) → A
+quiet e h t = absurd (rw (digit-opens-nothing {c = 48 + e} (omega arith) (omega arith)) at t)
+
+-- the next byte is no digit that makes a label with l
+data NoDigitOf (l : ℕ) : Bytes → Type 0 where
+  ended : NoDigitOf l []
+  none : {c : ℕ} {b : Bytes} → ¬ Digit l c → NoDigitOf l (c ∷ b)
+
+-- and is passed over then
+digit-skipped : {l : ℕ} {b : Bytes} (f : ℕ → State) (o : Offers) → NoDigitOf l b → look (digit l f o) b ≡ look o b
+digit-skipped f o ended = refl
+digit-skipped {l} f o (none {c = c} {b = b} h) = go (dec-digit l c) refl
+  where
+    go : (x : Dec (Digit l c)) → dec-digit l c ≡ x → look (digit l f o) (c ∷ b) ≡ look o (c ∷ b)
+    go (yes y) q = absurd (h y)
+    go (no n) q = rw (q, look)
+
+-- a byte that begins no label
+first-digit : {b : Bytes} → NoDigit b → NoDigitOf 0 b
+first-digit rules.ended = ended
+first-digit (rules.too-low {c = c} l) = none (λ (d : Digit 0 c). omega arith)
+first-digit (rules.too-high {c = c} l) = none (λ (d : Digit 0 c). omega arith)
+
+-- a byte that makes no label of two digits
+second-digit : {l : ℕ} {b : Bytes} → NoSecond l b → NoDigitOf l b
+second-digit rules.ended = ended
+second-digit {l} (rules.too-low {c = c} h) = none (λ (d : Digit l c). omega arith)
+second-digit {l} (rules.too-high {c = c} h) = none (λ (d : Digit l c). omega arith)
+second-digit {l} (rules.too-large {e = e} h m) = none (λ (d : Digit l (48 + e)). omega arith)
+
+-- no label has three digits
+third-digit : {l : ℕ} → 7 ≤ l → (b : Bytes) → NoDigitOf l b
+third-digit h [] = ended
+third-digit {l} h (c ∷ b) = none (λ (d : Digit l c). omega arith)
+
+-- a state takes what it offers
+here : {σ : State} {b : Bytes} → Here σ (offer σ) b
+here = record { now = refl; at-end = refl }
+
+-- The state τ takes at b what σ takes there.
+record Alike (σ τ : State) (b : Bytes) : Type 0 where
+  takes : Here τ (offer σ) b
+  depths : depth τ ≡ depth σ
+
+-- and so what is offered there
+taking : {σ τ : State} {o : Offers} {b : Bytes} → Alike σ τ b → Here σ o b → Here τ o b
+taking s h = record { now = s .takes .now ∙ h .now; at-end = s .takes .at-end ∙ h .at-end }
+
+-- without a byte that is not next
+passed : {τ σ : State} {c : ℕ} {o : Offers} {b : Bytes} → NotAt (c ∷ []) b → Here τ (on c σ o) b → Here τ o b
+passed {σ = σ} {o = o} h k = record { now = k .now ∙ skip σ o h; at-end = k .at-end }
+
+module _ {limit : ℕ} where
+  -- moves behind moves
+  onwards : {σ τ ω : State} {b c d : Bytes} → Moves limit σ b τ c → Moves limit τ c ω d → Moves limit σ b ω d
+  onwards stays y = y
+  onwards (moves e l x) y = moves e l (onwards x y)
+
+  -- a move from a state that takes the same
+  instead : {σ τ ω υ : State} {c : ℕ} {b more : Bytes} → Alike σ τ (c ∷ b) → look (offer σ) (c ∷ b) ≡ goes ω → (T (opening c) → depth σ < limit) → Moves limit ω b υ more
+      → Moves limit τ (c ∷ b) υ more
+  instead {τ = τ} s e l y = moves {σ = τ} (s .takes .now ∙ e) (λ o. rw (s .depths) (l o)) y
+
+  module _ {A : Type 0} {behind : A → Offers} where
+    -- a result behind some moves
+    moved : {σ τ : State} {b more : Bytes} {r : Result A} → Moves limit σ b τ more → Led limit τ more behind r → Led limit σ b behind r
+    moved x (led y h) = led (onwards x y) h
+    moved x (broke y h) = broke (onwards x y) h
+    moved x (deepened y e o l) = deepened (onwards x y) e o l
+
+    -- a result behind one byte
+    first : {σ τ : State} {c : ℕ} {b : Bytes} {r : Result A} → look (offer σ) (c ∷ b) ≡ goes τ → (T (opening c) → depth σ < limit) → Led limit τ b behind r → Led limit σ (c ∷ b) behind r
+    first e l x = moved (moves e l stays) x
+
+    -- two states that take the same
+    alike : {σ τ : State} {b : Bytes} {r : Result A} → Alike σ τ b → Led limit σ b behind r → Led limit τ b behind r
+    alike s (led stays h) = led stays (taking s h)
+    alike s (led (moves e l y) h) = led (instead s e l y) h
+    alike s (broke stays h) = broke stays (taking s h)
+    alike s (broke (moves e l y) h) = broke (instead s e l y) h
+    alike {τ = τ} s (deepened stays e o l) = deepened {τ = τ} stays (s .takes .now ∙ e) o (rw (s .depths) l)
+    alike s (deepened (moves e l y) f o m) = deepened (instead s e l y) f o m
+
+  module _ {A B : Type 0} {behind : A → Offers} {further : B → Offers} where
+    -- something is got, and reading goes on from there
+    further-on : {σ : State} {b more : Bytes} {x : A} {r : Result B} → Led limit σ b behind (got x more) → ((τ : State) → Here τ (behind x) more → Led limit τ more further r) → Led limit σ b further r
+    further-on (led {τ = τ} y h) f = moved y (f τ h)
+
+    -- a stop is a stop of what is around it
+    stop : {σ : State} {b more : Bytes} {s : Stop} → Led limit σ b behind (stopped s more) → Led limit σ b further (stopped s more)
+    stop (broke y h) = broke y h
+    stop (deepened y e o l) = deepened y e o l
+
+  -- a label's digits lead behind the term
+  led-label : {b : Bytes} {r : Result ℕ} → LabelReads b r → (o a : Filter → Filter) (F : FilterPlace) → Led limit (machine.hash o a F) b (λ l. behind-term o F (a (syntax.labelled l))) r
+  led-label (one-digit {d = d} {b = b} l h s) o a F =
+      let taken = digit-taken 0 d b (λ l. label l o a F) nothing h (omega arith) (omega arith) in
+      led (moves (rw zero-add at taken) (quiet d h) stays) (record { now = digit-skipped (λ m. label m o a F) (behind-term o F (a (syntax.labelled d))) (second-digit s); at-end = refl })
+  led-label (two-digits {d = d} {e = e} {b = b} l h m) o a F =
+      let taken = digit-taken 0 d ((48 + e) ∷ b) (λ l. label l o a F) nothing (omega arith) (omega arith) (omega arith) in
+      let taken-too = digit-taken d e b (λ l. label l o a F) (behind-term o F (a (syntax.labelled d))) h (omega arith) m in
+      led (moves (rw zero-add at taken) (quiet d (omega arith)) (moves taken-too (quiet e h) stays))
+      (record { now = digit-skipped (λ m. label m o a F) (behind-term o F (a (syntax.labelled (10 * d + e)))) (third-digit (omega arith) b); at-end = refl })
+  led-label (no-digit h) o a F = broke stays (record { now = digit-skipped (λ l. label l o a F) nothing (first-digit h); at-end = refl })
+
+  -- stars behind an item
+  led-stars : {p : Path} {b : Bytes} {r : Result Path} → StarsRead p b r → (e t : Path → Path) (P : PathPlace) (σ : State) → Here σ (offer (machine.item-read e t P p)) b
+      → Led limit σ b (λ q. behind-item e P (t q)) r
+  unfolding opening
+  led-stars (one-more x) e t P σ h = first (h .now) absurd (led-stars x e t P _ here)
+  led-stars (no-more k) e t P σ h = led stays (passed k h)
+
+  -- a path that is a term is read as a path
+  as-term : {b : Bytes} {r : Result Path} {behind : Path → Offers} (o a : Filter → Filter) (F : FilterPlace) → NotAt termBytes b
+      → Led limit (machine.item (λ p. p) (λ p. p) (in-filter o a F)) b behind r → Led limit (machine.term o a F) b behind r
+  as-term o a F k x =
+      let same = skip-all (terms o a F) (ons (atoms (λ p. p) (λ p. p) (in-filter o a F)) nothing) k in
+      alike (record { takes = record { now = same; at-end = refl }; depths = refl }) x
+
+  -- Each kind of rule leads the machine from where its kind is wanted to where what is got stands read.
+  mutual
+    unfolding opening
+
+    pub led-path : {n : ℕ} {b : Bytes} {r : Result Path} → PathReads limit n b r → (P : PathPlace) → path-depth P ≡ n
+        → Led limit (machine.item (λ p. p) (λ p. p) P) b (behind-path P) r
+    led-path (path x y) P d = further-on (led-sequence x (λ p. p) P d) (λ σ h. led-path-on y P d σ h)
+    led-path (path-stops x) P d = stop (led-sequence x (λ p. p) P d)
+
+    led-path-on : {n : ℕ} {p : Path} {b : Bytes} {r : Result Path} → PathGoesOn limit n p b r → (P : PathPlace) → path-depth P ≡ n → (σ : State) → Here σ (behind-sequence P p) b
+        → Led limit σ b (behind-path P) r
+    led-path-on (bar {p = p} x y) P d σ h = first (h .now) absurd (further-on (led-sequence x (λ q. syntax.either p q) P d) (λ τ k. led-path-on y P d τ k))
+    led-path-on (bar-stops {p = p} x) P d σ h = first (h .now) absurd (stop (led-sequence x (λ q. syntax.either p q) P d))
+    led-path-on (no-bar k) P d σ h = led stays (passed k h)
+
+    led-sequence : {n : ℕ} {b : Bytes} {r : Result Path} → SequenceReads limit n b r → (e : Path → Path) (P : PathPlace) → path-depth P ≡ n
+        → Led limit (machine.item e (λ p. p) P) b (λ p. behind-sequence P (e p)) r
+    led-sequence (sequence x y) e P d = further-on (led-item x e (λ p. p) P d) (λ σ h. led-sequence-on y e P d σ h)
+    led-sequence (sequence-stops x) e P d = stop (led-item x e (λ p. p) P d)
+
+    led-sequence-on : {n : ℕ} {p : Path} {b : Bytes} {r : Result Path} → SequenceGoesOn limit n p b r → (e : Path → Path) (P : PathPlace) → path-depth P ≡ n → (σ : State) → Here σ (behind-item e P p) b
+        → Led limit σ b (λ p. behind-sequence P (e p)) r
+    led-sequence-on (slash {p = p} x y) e P d σ h = first (h .now) absurd (further-on (led-item x e (λ q. syntax.then p q) P d) (λ τ k. led-sequence-on y e P d τ k))
+    led-sequence-on (slash-stops {p = p} x) e P d σ h = first (h .now) absurd (stop (led-item x e (λ q. syntax.then p q) P d))
+    led-sequence-on (no-slash k) e P d σ h = led stays (passed k h)
+
+    led-item : {n : ℕ} {b : Bytes} {r : Result Path} → ItemReads limit n b r → (e t : Path → Path) (P : PathPlace) → path-depth P ≡ n
+        → Led limit (machine.item e t P) b (λ p. behind-item e P (t p)) r
+    led-item (item x y) e t P d = further-on (led-atom x e t P d) (λ σ h. led-stars y e t P σ h)
+    led-item (item-stops x) e t P d = stop (led-atom x e t P d)
+
+    led-atom : {n : ℕ} {b : Bytes} {r : Result Path} → AtomReads limit n b r → (e t : Path → Path) (P : PathPlace) → path-depth P ≡ n
+        → Led limit (machine.item e t P) b (λ p. offer (machine.item-read e t P p)) r
+    led-atom dot e t P d = first refl absurd (led stays here)
+    led-atom letter-v e t P d = first refl absurd (led stays here)
+    led-atom caret e t P d = first refl absurd (led stays here)
+    led-atom greater e t P d = first refl absurd (led stays here)
+    led-atom less e t P d = first refl absurd (led stays here)
+    led-atom (square l x) e t P d = first refl (λ o. rw d l) (further-on (led-filter x (in-square e t P) (ap suc d)) (λ σ h. first (h .now) absurd (led stays here)))
+    led-atom (square-open l x k) e t P d = first refl (λ o. rw d l) (further-on (led-filter x (in-square e t P) (ap suc d)) (λ σ h. broke stays (passed k h)))
+    led-atom (square-stops l x) e t P d = first refl (λ o. rw d l) (stop (led-filter x (in-square e t P) (ap suc d)))
+    led-atom (square-deep l) e t P d = deepened stays refl tt (rw d l)
+    led-atom (round l x) e t P d = first refl (λ o. rw d l) (further-on (led-path x (in-round e t P) (ap suc d)) (λ σ h. first (h .now) absurd (led stays here)))
+    led-atom (round-open l x k) e t P d = first refl (λ o. rw d l) (further-on (led-path x (in-round e t P) (ap suc d)) (λ σ h. broke stays (passed k h)))
+    led-atom (round-stops l x) e t P d = first refl (λ o. rw d l) (stop (led-path x (in-round e t P) (ap suc d)))
+    led-atom (round-deep l) e t P d = deepened stays refl tt (rw d l)
+    led-atom (no-atom h) e t P d = broke stays (record { now = skip-all (atoms e t P) nothing h; at-end = refl })
+
+    led-filter : {n : ℕ} {b : Bytes} {r : Result Filter} → FilterReads limit n b r → (F : FilterPlace) → filter-depth F ≡ n
+        → Led limit (machine.term (λ f. f) (λ f. f) F) b (behind-filter F) r
+    led-filter (filter x y) F d = further-on (led-conjunction x (λ f. f) F d) (λ σ h. led-filter-on y F d σ h)
+    led-filter (filter-stops x) F d = stop (led-conjunction x (λ f. f) F d)
+
+    led-filter-on : {n : ℕ} {f : Filter} {b : Bytes} {r : Result Filter} → FilterGoesOn limit n f b r → (F : FilterPlace) → filter-depth F ≡ n → (σ : State) → Here σ (behind-conjunction F f) b
+        → Led limit σ b (behind-filter F) r
+    led-filter-on (plus {f = f} x y) F d σ h = first (h .now) absurd (further-on (led-conjunction x (λ g. syntax.or f g) F d) (λ τ k. led-filter-on y F d τ k))
+    led-filter-on (plus-stops {f = f} x) F d σ h = first (h .now) absurd (stop (led-conjunction x (λ g. syntax.or f g) F d))
+    led-filter-on (no-plus k) F d σ h = led stays (passed k h)
+
+    led-conjunction : {n : ℕ} {b : Bytes} {r : Result Filter} → ConjunctionReads limit n b r → (o : Filter → Filter) (F : FilterPlace) → filter-depth F ≡ n
+        → Led limit (machine.term o (λ f. f) F) b (λ f. behind-conjunction F (o f)) r
+    led-conjunction (conjunction x y) o F d = further-on (led-term x o (λ f. f) F d) (λ σ h. led-conjunction-on y o F d σ h)
+    led-conjunction (conjunction-stops x) o F d = stop (led-term x o (λ f. f) F d)
+
+    led-conjunction-on : {n : ℕ} {f : Filter} {b : Bytes} {r : Result Filter} → ConjunctionGoesOn limit n f b r → (o : Filter → Filter) (F : FilterPlace) → filter-depth F ≡ n → (σ : State) → Here σ (behind-term o F f) b
+        → Led limit σ b (λ f. behind-conjunction F (o f)) r
+    led-conjunction-on (ampersand {f = f} x y) o F d σ h = first (h .now) absurd (further-on (led-term x o (λ g. syntax.and f g) F d) (λ τ k. led-conjunction-on y o F d τ k))
+    led-conjunction-on (ampersand-stops {f = f} x) o F d σ h = first (h .now) absurd (stop (led-term x o (λ g. syntax.and f g) F d))
+    led-conjunction-on (no-ampersand k) o F d σ h = led stays (passed k h)
+
+    led-term : {n : ℕ} {b : Bytes} {r : Result Filter} → TermReads limit n b r → (o a : Filter → Filter) (F : FilterPlace) → filter-depth F ≡ n
+        → Led limit (machine.term o a F) b (λ f. behind-term o F (a f)) r
+    led-term (exclamation x) o a F d = first refl absurd (further-on (led-term x o (λ f. a (syntax.not f)) F d) (λ σ h. led stays h))
+    led-term (exclamation-stops x) o a F d = first refl absurd (stop (led-term x o (λ f. a (syntax.not f)) F d))
+    led-term letter-t o a F d = first refl absurd (led stays here)
+    led-term letter-f o a F d = first refl absurd (led stays here)
+    led-term (hash x) o a F d = first refl absurd (further-on (led-label x o a F) (λ σ h. led stays h))
+    led-term (hash-stops x) o a F d = first refl absurd (stop (led-label x o a F))
+    led-term (curly l x) o a F d = first refl (λ o. rw d l) (further-on (led-filter x (in-curly o a F) (ap suc d)) (λ σ h. first (h .now) absurd (led stays here)))
+    led-term (curly-open l x k) o a F d = first refl (λ o. rw d l) (further-on (led-filter x (in-curly o a F) (ap suc d)) (λ σ h. broke stays (passed k h)))
+    led-term (curly-stops l x) o a F d = first refl (λ o. rw d l) (stop (led-filter x (in-curly o a F) (ap suc d)))
+    led-term (curly-deep l) o a F d = deepened stays refl tt (rw d l)
+    led-term (a-path k x) o a F d = further-on (as-term o a F k (led-path x (in-filter o a F) d)) (λ σ h. led stays h)
+    led-term (a-path-stops k x) o a F d = stop (as-term o a F k (led-path x (in-filter o a F) d))

@@ -1,0 +1,104 @@
+-- `tables::check::check_entries` meets its contract: the walk comes to the lowest entry that is not in order or too high, or to the end. Assumes nothing.
+use Prim.Native.Nat.{ℕ, _-_, _≤_}
+use mathlib.Core.Path.{_≡_, refl}
+use mathlib.Core.List.{List}
+use lib.ListN.{length, length-set}
+use native.Mathlib.Omega.{arith}
+use borrow.Author.Needs.{needs}
+use Rattle.reply.specs.Bytes.{Bytes}
+use Rattle.tree.proofs.Tests.{test-passed, test-failed}
+use Rattle.query.specs.Table.{entries, EntryRight}
+use Rattle.tables.proofs.Walk.{Walked, walk-starts, walk-on, walk-ends, walk-malformed, walk-high}
+use Rattle.tables.proofs.check.check_entries.Statement.{statement}
+use Rattle.tables.proofs.check.check_entries.Tie as tie
+
+-- where the walk stands before entry i
+record Standing (table : Bytes) (height n : ℕ) (heights : List ℕ) (i : ℕ) : Type 0 where
+  within : i ≤ n
+  counted : n ≡ length (entries table)
+  room : length heights ≡ 1024
+  walked : Walked (entries table) height heights i
+
+abbrev Inv-loop : tie.InvT-loop
+Inv-loop table height n heights₀ i₀ heights i = Standing table height n heights i
+
+abbrev μ-loop : tie.MeasureT-loop
+μ-loop table height n heights₀ i₀ heights i = n - i
+
+-- entry i has passed the test
+ordered : (c : tie.Else1 Inv-loop μ-loop) → EntryRight (entries (c .before .before .before .before .before .before .args .table .now)) (c .before .before .before .loop .i)
+ordered c = test-passed (c .before .entry-right .result) (c .before .entry-right .ensures .exact) (c .if1 .left)
+
+count-requires : tie.Need-count-requires Inv-loop μ-loop
+count-requires c κs = search needs
+
+loop-holds : tie.Need-loop-holds Inv-loop μ-loop
+loop-holds c = record { within = omega arith; counted = c .count .ensures; room = refl; walked = walk-starts _ _ _ }
+
+entry-right-requires : tie.Need-entry-right-requires Inv-loop μ-loop
+entry-right-requires c κs = search needs
+
+returns : tie.Need-returns Inv-loop μ-loop
+returns c limit same =
+    walk-malformed _ (c .before .before .before .loop .inv .walked) limit same (omega arith)
+    (test-failed (c .before .entry-right .result) (c .before .entry-right .ensures .exact) (c .if1 .taken))
+
+slice-aggregate-height-below : tie.Need-slice-aggregate-height-below Inv-loop μ-loop
+slice-aggregate-height-below c = search needs
+
+height-below-requires : tie.Need-height-below-requires Inv-loop μ-loop
+height-below-requires c κs = search needs
+
+returns-2 : tie.Need-returns-2 Inv-loop μ-loop
+returns-2 c limit same =
+    walk-high _ (c .before .before .before .before .before .before .loop .inv .walked) limit same (omega arith)
+    (ordered (c .before .before .before)) (c .before .height-below .ensures) (omega arith)
+
+add-heights : tie.Need-add-heights Inv-loop μ-loop
+add-heights c = search needs
+
+mul-heights : tie.Need-mul-heights Inv-loop μ-loop
+mul-heights c = search needs
+
+array-write-heights : tie.Need-array-write-heights Inv-loop μ-loop
+array-write-heights c = search needs
+
+add-i : tie.Need-add-i Inv-loop μ-loop
+add-i c = search needs
+
+loop-less : tie.Need-loop-less Inv-loop μ-loop
+loop-less c = search needs
+
+loop-again : tie.Need-loop-again Inv-loop μ-loop
+loop-again c =
+    let here = c .before .before .before .before .before .before .loop .inv in
+    record {
+      within = omega arith;
+      counted = here .counted;
+      room = simp length-set (here .room);
+      walked = walk-on (here .walked) (omega arith) (ordered (c .before .before .before)) (c .before .height-below .ensures) (omega arith) (omega arith);
+    }
+
+returns-3 : tie.Need-returns-3 Inv-loop μ-loop
+returns-3 c limit same = walk-ends _ (c .before .loop .inv .walked) limit same (omega arith) (c .before .loop .inv .counted)
+
+pub check-entries-spec : {M : Type 1} → statement M
+check-entries-spec =
+    tie.close
+    (tie.spec
+    Inv-loop
+    μ-loop
+    count-requires
+    loop-holds
+    entry-right-requires
+    returns
+    slice-aggregate-height-below
+    height-below-requires
+    returns-2
+    add-heights
+    mul-heights
+    array-write-heights
+    add-i
+    loop-less
+    loop-again
+    returns-3)

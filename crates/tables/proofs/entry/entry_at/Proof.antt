@@ -1,0 +1,61 @@
+-- `tables::entry::entry_at` meets its contract: the bytes read are those of the entry. Assumes nothing.
+use Rattle.tables.proofs.Entries.{fields-read, fields-none}
+use borrow.Author.Needs.{needs}
+use Rattle.tables.proofs.entry.entry_at.Statement.{statement}
+use Rattle.tables.proofs.entry.entry_at.Tie as tie
+
+returns : tie.Need-returns
+returns c = fields-none (c .before .before .args .table .now) (c .before .before .args .i) (search needs)
+
+mul-at : tie.Need-mul-at
+mul-at c = search needs
+
+shared-slice-read-wide : tie.Need-shared-slice-read-wide
+shared-slice-read-wide c = search needs
+
+wide-requires : tie.Need-wide-requires
+wide-requires c κs = search needs
+
+add-wide : tie.Need-add-wide
+add-wide c = search needs
+
+shared-slice-read-wide-2 : tie.Need-shared-slice-read-wide-2
+shared-slice-read-wide-2 c = search needs
+
+wide-requires-2 : tie.Need-wide-requires-2
+wide-requires-2 c κs = search needs
+
+add-two-bytes : tie.Need-add-two-bytes
+add-two-bytes c = search needs
+
+two-bytes-requires : tie.Need-two-bytes-requires
+two-bytes-requires c κs = search needs
+
+add-two-bytes-2 : tie.Need-add-two-bytes-2
+add-two-bytes-2 c = search needs
+
+two-bytes-requires-2 : tie.Need-two-bytes-requires-2
+two-bytes-requires-2 c κs = search needs
+
+returns-2 : tie.Need-returns-2
+returns-2 c =
+    let a = c .before .before .before .before .before .before .before .before .args in
+    fields-read (a .table .now) (a .i) _ (search needs) (c .before .before .before .before .wide .ensures .0) (c .before .before .wide2 .ensures .0)
+    (c .before .two-bytes .ensures) (c .two-bytes2 .ensures)
+
+pub entry-at-spec : {M : Type 1} → statement M
+entry-at-spec =
+    tie.close
+    (tie.spec
+    returns
+    mul-at
+    shared-slice-read-wide
+    wide-requires
+    add-wide
+    shared-slice-read-wide-2
+    wide-requires-2
+    add-two-bytes
+    two-bytes-requires
+    add-two-bytes-2
+    two-bytes-requires-2
+    returns-2)

@@ -1,0 +1,45 @@
+-- `tables::height::height_below` meets its contract: an entry is one higher than the higher of its operands. Assumes nothing.
+use Prim.Native.Nat.{ℕ, _+_}
+use mathlib.Core.Path.{ap, _∙_}
+use Rattle.tables.proofs.Heights.{height-read}
+use borrow.Author.Needs.{needs}
+use Rattle.tables.proofs.height.height_below.Statement.{statement}
+use Rattle.tables.proofs.height.height_below.Tie as tie
+
+entry-at-requires : tie.Need-entry-at-requires
+entry-at-requires c κs = search needs
+
+left-of-requires : tie.Need-left-of-requires
+left-of-requires c κs = search needs
+
+operand-height-requires : tie.Need-operand-height-requires
+operand-height-requires c κs = search needs
+
+right-of-requires : tie.Need-right-of-requires
+right-of-requires c κs = search needs
+
+operand-height-requires-2 : tie.Need-operand-height-requires-2
+operand-height-requires-2 c κs = search needs
+
+higher-requires : tie.Need-higher-requires
+higher-requires c κs = search needs
+
+returns : tie.Need-returns
+returns c =
+    ap (λ (h : ℕ). h + 1) (c .higher .ensures)
+    ∙ height-read (c .before .before .before .before .before .before .before .before .args .heights .now)
+    (c .before .before .before .before .before .entry-at .result) (c .before .before .before .before .before .entry-at .ensures)
+    (c .before .before .before .before .left-of .ensures) (c .before .before .before .operand-height .ensures)
+    (c .before .before .right-of .ensures) (c .before .operand-height2 .ensures)
+
+pub height-below-spec : {M : Type 1} → statement M
+height-below-spec =
+    tie.close
+    (tie.spec
+    entry-at-requires
+    left-of-requires
+    operand-height-requires
+    right-of-requires
+    operand-height-requires-2
+    higher-requires
+    returns)

@@ -1,0 +1,97 @@
+// The check of a query table and of a filter table: one walk over the entries serves both.
+ghost use mathlib.Core.Path.{_≡_};
+ghost use Prim.Native.Nat.{_≤_};
+ghost use lib.ListN.{length};
+ghost use Rattle.reply.specs.Reply.{said};
+ghost use Rattle.reply.specs.Bytes.{Whole};
+ghost use Rattle.tree.proofs.Tests.{Decides};
+ghost use Rattle.query.specs.Table.{entries as entriesOf};
+ghost use Rattle.query.specs.Fault.{Limits};
+ghost use Rattle.tables.specs.Promise.{EntriesChecked, QueryChecked, FilterChecked};
+use crate::entry::count;
+use crate::entry::sort_at;
+use crate::height::height_below;
+use crate::kinds::PATH;
+use crate::limits::ANSWER_ENTRIES;
+use crate::limits::FILTER_ENTRIES;
+use crate::limits::FILTER_HEIGHT;
+use crate::order::entry_right;
+use reply::Reason;
+use reply::Refusal;
+use reply::Reply;
+
+// "lowest entry, in it 8, 9". The heights of the entries before are kept.
+fn check_entries(table: &[u8], height: usize) -> Reply
+    requires { ⌜ length (entriesOf (now table)) ≤ 1024 ⌝ }
+    ensures { λ r. ⌜ ((limit : Limits) → limit .height ≡ height → EntriesChecked limit (now (table .entry)) (said r)) ⌝ }
+{
+    let n = count(table);
+    let mut heights = [0usize; ANSWER_ENTRIES];
+    let mut i = 0;
+    while i < n {
+        if !entry_right(table, i) {
+            return Reply::Refused(Refusal {
+                reason: Reason::EntryMalformed,
+                place: i,
+            });
+        }
+        let below = height_below(&heights, table, i);
+        if height <= below {
+            return Reply::Refused(Refusal {
+                reason: Reason::EntryHeight,
+                place: i,
+            });
+        }
+        heights[i] = below + 1;
+        i += 1;
+    }
+    Reply::Count(n)
+}
+
+// Whether the table is whole entries, and at most as many as given.
+pub fn whole(table: &[u8], entries: usize) -> bool
+    requires { ⌜ entries ≤ 1024 ⌝ }
+    ensures { λ r. ⌜ Decides r (Whole 6 entries (now (table .entry))) ⌝ }
+{
+    let length = table.len();
+    (length % 6 == 0) & (length <= 6 * entries)
+}
+
+// "12 for length, lowest entry 8, 9, then 12 for the last entry"
+pub fn check_query(table: &[u8], entries: usize, height: usize) -> Reply
+    requires { ⌜ entries ≤ 1024 ⌝ }
+    ensures { λ r. ⌜ QueryChecked (record { entries = entries; height = height }) (now (table .entry)) (said r) ⌝ }
+{
+    let fits = (0 < table.len()) & whole(table, entries);
+    if !fits {
+        return Reply::Refused(Refusal {
+            reason: Reason::QueryTable,
+            place: 0,
+        });
+    }
+    let reply = check_entries(table, height);
+    let Reply::Count(n) = reply else {
+        return reply;
+    };
+    let last = n - 1;
+    if sort_at(table, last) == PATH {
+        return reply;
+    }
+    Reply::Refused(Refusal {
+        reason: Reason::QueryTable,
+        place: last,
+    })
+}
+
+// "7, then lowest entry, in it 8, 9"
+pub fn check_filters(table: &[u8]) -> Reply
+    ensures { λ r. ⌜ FilterChecked (now (table .entry)) (said r) ⌝ }
+{
+    if !whole(table, FILTER_ENTRIES) {
+        return Reply::Refused(Refusal {
+            reason: Reason::FilterLength,
+            place: 0,
+        });
+    }
+    check_entries(table, FILTER_HEIGHT)
+}

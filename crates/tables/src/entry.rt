@@ -1,0 +1,90 @@
+// "Query entry, 6 bytes: kind, label, left (two bytes), right (two bytes)."
+ghost use mathlib.Core.Path.{_≡_};
+ghost use Prim.Native.Nat.{_+_, _<_};
+ghost use lib.ListN.{length, getD};
+ghost use Rattle.reply.specs.Bytes.{two};
+ghost use Rattle.query.specs.Table.{entries, entryAt, rowAt};
+ghost use Rattle.tables.specs.Shape.{sortOf};
+ghost use Rattle.tables.specs.Fields.{Fields};
+use crate::kinds::sort_of;
+
+pub struct Entry {
+    pub kind: usize,
+    pub label: usize,
+    pub left: usize,
+    pub right: usize,
+}
+
+// A byte as a number.
+fn wide(x: u8) -> usize
+    ensures { λ r. ⌜ (r ≡ x) × (r < 256) ⌝ }
+{
+    x as usize
+}
+
+// The two-byte number at a place, low byte first.
+fn two_bytes(table: &[u8], at: usize) -> usize
+    requires { ⌜ at + 1 < length (now table) ⌝ }
+    ensures { λ r. ⌜ r ≡ two (getD (now (table .entry)) at 0) (getD (now (table .entry)) (at + 1) 0) ⌝ }
+{
+    wide(table[at]) + 256 * wide(table[at + 1])
+}
+
+// How many entries a table has.
+pub fn count(table: &[u8]) -> usize
+    ensures { λ r. ⌜ r ≡ length (entries (now (table .entry))) ⌝ }
+{
+    table.len() / 6
+}
+
+// Entry i; where there is none, all its fields are 0.
+pub fn entry_at(table: &[u8], i: usize) -> Entry
+    ensures { λ r. ⌜ Fields (entryAt (entries (now (table .entry))) i) r ⌝ }
+{
+    if table.len() / 6 <= i {
+        return Entry {
+            kind: 0,
+            label: 0,
+            left: 0,
+            right: 0,
+        };
+    }
+    let at = 6 * i;
+    Entry {
+        kind: wide(table[at]),
+        label: wide(table[at + 1]),
+        left: two_bytes(table, at + 2),
+        right: two_bytes(table, at + 4),
+    }
+}
+
+pub fn kind_at(table: &[u8], i: usize) -> usize
+    ensures { λ r. ⌜ r ≡ entryAt (entries (now (table .entry))) i .kind ⌝ }
+{
+    entry_at(table, i).kind
+}
+
+pub fn label_at(table: &[u8], i: usize) -> usize
+    ensures { λ r. ⌜ r ≡ entryAt (entries (now (table .entry))) i .label ⌝ }
+{
+    entry_at(table, i).label
+}
+
+pub fn left_at(table: &[u8], i: usize) -> usize
+    ensures { λ r. ⌜ r ≡ entryAt (entries (now (table .entry))) i .left ⌝ }
+{
+    entry_at(table, i).left
+}
+
+pub fn right_at(table: &[u8], i: usize) -> usize
+    ensures { λ r. ⌜ r ≡ entryAt (entries (now (table .entry))) i .right ⌝ }
+{
+    entry_at(table, i).right
+}
+
+// The number of the sort of entry i, 0 where its kind is not listed.
+pub fn sort_at(table: &[u8], i: usize) -> usize
+    ensures { λ r. ⌜ r ≡ sortOf (rowAt (entries (now (table .entry))) i) ⌝ }
+{
+    sort_of(kind_at(table, i))
+}

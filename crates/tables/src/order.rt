@@ -1,0 +1,46 @@
+// Whether an entry is in order.
+ghost use Rattle.tree.proofs.Tests.{Decides};
+ghost use Rattle.query.specs.Table.{entries, LabelField, OperandField, EntryRight};
+ghost use Rattle.tables.specs.Shape.{OfOperand};
+use crate::entry::entry_at;
+use crate::entry::sort_at;
+use crate::kinds::NONE;
+use crate::kinds::left_of;
+use crate::kinds::right_of;
+use crate::kinds::sort_of;
+use crate::kinds::uses_label;
+
+// "label is the given one (1 to 64)", and "unused fields are zero".
+fn label_right(used: bool, label: usize) -> bool
+    ensures { λ r. ⌜ Decides r (LabelField used label) ⌝ }
+{
+    if used {
+        (1 <= label) & (label <= 64)
+    } else {
+        label == 0
+    }
+}
+
+// "Operands are numbers of earlier entries", and "unused fields are zero".
+fn operand_right(table: &[u8], i: usize, sort: usize, number: usize) -> bool
+    ensures { λ r. ⌜ OfOperand (λ o. Decides r (OperandField (entries (now (table .entry))) i o number)) sort ⌝ }
+{
+    if sort == NONE {
+        number == 0
+    } else {
+        (number < i) & (sort_at(table, number) == sort)
+    }
+}
+
+// Whether entry i is in order: kind, unused fields, the operands' numbers and sorts, label.
+pub fn entry_right(table: &[u8], i: usize) -> bool
+    ensures { λ r. ⌜ Decides r (EntryRight (entries (now (table .entry))) i) ⌝ }
+{
+    let entry = entry_at(table, i);
+    let kind = entry.kind;
+    let listed = sort_of(kind) != NONE;
+    let label = label_right(uses_label(kind), entry.label);
+    let left = operand_right(table, i, left_of(kind), entry.left);
+    let right = operand_right(table, i, right_of(kind), entry.right);
+    listed & label & left & right
+}
