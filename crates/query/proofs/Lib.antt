@@ -7,3 +7,4 @@ pub mod Deciding
 pub mod Answers
 pub mod Unique
 pub mod Tables
+pub mod Appended

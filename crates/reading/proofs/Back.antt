@@ -12,7 +12,6 @@ use Rattle.query.specs.Syntax.{Path, self, child, parent, next, previous, stay,
 use Rattle.query.specs.Syntax.{Filter, labelled, leads, always, never, not, and, or}
 use Rattle.query.specs.Table.{Entry, Entries, entries, entryBytes, readOn, Meant, a-path, a-filter, thePath, theFilter, pathIn, filterIn, build, mean, meanings, queryOf}
 use Rattle.query.proofs.Tables.{read-length, read-append, read-keeps}
-use Rattle.text.specs.Promise.{Fits}
 use Rattle.text.specs.Written.{pathEntries, filterEntries, tableOf}
 
 -- what an entry stands for, by its number
@@ -179,7 +178,7 @@ mutual
   filter-below (and f g) n = let left : Entries = filterEntries n f in two-below n 21 left (filterEntries (n + length left) g) (filter-below f n) (filter-below g (n + length left))
   filter-below (or f g) n = let left : Entries = filterEntries n f in two-below n 22 left (filterEntries (n + length left) g) (filter-below f n) (filter-below g (n + length left))
 
--- the bytes written for a path whose table fits are read back as its table
-pub table-back : (p : Path) → Fits (tableOf p) → entries (entryBytes (tableOf p)) ≡ tableOf p
+-- the bytes written for a path are read back as its table, if the entries' numbers have two bytes
+pub table-back : (p : Path) → length (tableOf p) ≤ 65536 → entries (entryBytes (tableOf p)) ≡ tableOf p
 unfolding tableOf
-table-back p fits = entries-back (below-more (omega (arith, fits .few)) (path-below p 0))
+table-back p few = entries-back (below-more (omega arith) (path-below p 0))

@@ -11,3 +11,5 @@ pub mod Determined
 pub mod Judged
 pub mod Unique
 pub mod Back
+pub mod Ordered
+pub mod Accepted

@@ -1,0 +1,138 @@
+-- `chained` meets its contract, as a member of the cycle of calls. Assumes nothing.
+use Prim.Native.Nat.{ℕ, _+_, _-_, _*_, _≤_, _<_}
+use mathlib.Core.Path.{_≡_, refl, sym, _∙_, subst}
+use lib.ListN.{length, getD}
+use borrow.Author.Needs.{needs}
+use native.Mathlib.Omega.{arith}
+use Rattle.reply.specs.Bytes.{Bytes}
+use Rattle.tokens.specs.Reading.{chains, joining, joinedSpare}
+use Rattle.tokens.proofs.Places.{inside}
+use Rattle.tokens.proofs.Following.{got-stands, ready-after}
+use Rattle.tokens.proofs.Chains.{GoesOn, chaining, Going, started, not-started, ended, turned, not-turned}
+use Rattle.parser.proofs.+atom+bracketed+chained+filter+item+link+path+term.Proof.Measures.{chained-at, link-below}
+use Rattle.parser.proofs.+atom+bracketed+chained+filter+item+link+path+term.Lts-chained as lts
+use Rattle.parser.proofs.chained.Reads as chained
+use Rattle.parser.proofs.link.Reads as link
+use Rattle.tokens.proofs.label.byte_at.Reads as byte-at-reads
+use Rattle.tokens.proofs.kind.joint.Reads as joint-reads
+use Rattle.tokens.proofs.kind.kind_of.Reads as kind-of-reads
+use Rattle.tokens.proofs.entry.put.Reads as put-reads
+
+abbrev pub claims : ℕ → lts.Claims
+claims t = (link-below t, link.Post, byte-at-reads.Asked, byte-at-reads.Learnt, joint-reads.Asked, joint-reads.Learnt, kind-of-reads.Asked, kind-of-reads.Learnt, put-reads.Asked, put-reads.Learnt)
+
+abbrev pub Inv-loop : lts.InvT-loop
+Inv-loop text at depth table₀ count chain next₀ written₀ table next written =
+    (length table ≡ length table₀)
+    × ((before : Bytes) → Going (chains chain) (GoesOn chain depth) depth text at before count next₀ written₀ table₀ → Going (chains chain) (GoesOn chain depth) depth text at before count next written table)
+
+abbrev pub μ-loop : lts.MeasureT-loop
+μ-loop text at depth table₀ count chain next₀ written₀ table next written = length text - next
+
+module _ (t : ℕ) where
+  -- the first link is read
+  first-going : (c : lts.After-known-told (claims t) (chained-at t) chained.Post Inv-loop μ-loop)
+      → Going (chains (c .before .before .before .before .before .before .before .before .before .args .chain)) (GoesOn (c .before .before .before .before .before .before .before .before .before .args .chain) (c .before .before .before .before .before .before .before .before .before .args .depth)) (c .before .before .before .before .before .before .before .before .before .args .depth) (c .before .before .before .before .before .before .before .before .before .args .text .now) (c .before .before .before .before .before .before .before .before .before .args .at) (c .before .before .before .before .before .before .before .before .before .args .table .now) (c .before .before .before .before .before .before .before .before .before .args .count)
+          (c .before .first .given .0 .0) (c .before .first .given .0 .1 .0) (c .before .before .before .before .before .link .last .1 .1 .1 .0)
+  first-going c = started (chaining (c .before .before .before .before .before .before .before .before .before .args .chain)) (joinedSpare (c .before .before .before .before .before .before .before .before .before .args .chain)) (c .before .first .given .1) (c .before .before .before .before .before .link .ensures)
+
+  -- at the loop's head a chain is read, and what follows may add to it
+  going : (c : lts.At-loop (claims t) (chained-at t) chained.Post Inv-loop μ-loop)
+      → Going (chains (c .before .before .before .before .before .before .before .before .before .before .args .chain)) (GoesOn (c .before .before .before .before .before .before .before .before .before .before .args .chain) (c .before .before .before .before .before .before .before .before .before .before .args .depth)) (c .before .before .before .before .before .before .before .before .before .before .args .depth) (c .before .before .before .before .before .before .before .before .before .before .args .text .now) (c .before .before .before .before .before .before .before .before .before .before .args .at) (c .before .before .before .before .before .before .before .before .before .before .args .table .now) (c .before .before .before .before .before .before .before .before .before .before .args .count)
+          (c .loop .next) (c .loop .written) (c .loop .table)
+  going c = c .loop .inv .1 (c .before .before .before .before .before .before .before .before .before .before .args .table .now) (first-going (c .before))
+
+  -- the joining byte is the next
+  joint-next : (c : lts.Then1 (claims t) (chained-at t) chained.Post Inv-loop μ-loop) → getD (c .before .before .before .before .before .before .before .before .before .before .before .before .before .args .text .now) (c .before .before .before .loop .next) 0 ≡ joining (c .before .before .before .before .before .before .before .before .before .before .before .before .before .args .chain)
+  joint-next c = sym (c .before .before .byte-at .ensures) ∙ c .if1 .taken ∙ c .before .joint .ensures
+
+  -- it is a byte of the text
+  in-text : (c : lts.Then1 (claims t) (chained-at t) chained.Post Inv-loop μ-loop) → c .before .before .before .loop .next < length (c .before .before .before .before .before .before .before .before .before .before .before .before .before .args .text .now)
+  in-text c = inside (c .before .before .before .before .before .before .before .before .before .before .before .before .before .args .text .now) (c .before .before .before .loop .next) (subst (λ (b : ℕ). 0 < b) (sym (joint-next c)) (chaining (c .before .before .before .before .before .before .before .before .before .before .before .before .before .args .chain) .seen))
+
+  -- the table keeps its length
+  kept-length : (c : lts.At-loop (claims t) (chained-at t) chained.Post Inv-loop μ-loop) → length (c .loop .table) ≡ length (c .before .before .before .before .before .before .before .before .before .before .args .table .now)
+  kept-length c = c .loop .inv .0 ∙ c .before .before .before .before .before .before .link .kept .1 .1 .1 .0
+
+  -- behind one more link there is room for the entry that joins it
+  one-more : (c : lts.After-more (claims t) (chained-at t) chained.Post Inv-loop μ-loop)
+      → (c .before .before .before .before .before .before .before .before .before .loop .next + 1 < c .more .given .0 .0) × (c .more .given .0 .0 ≤ length (c .before .before .before .before .before .before .before .before .before .before .before .before .before .before .before .before .before .before .before .args .text .now)) × (c .before .before .before .before .before .before .before .before .before .loop .written < c .more .given .0 .1 .0) × (6 * (c .more .given .0 .1 .0 + 1) ≤ length (c .before .before .before .before .before .before .before .before .before .before .before .before .before .before .before .before .before .before .before .args .table .now))
+  one-more c =
+      let a = going (c .before .before .before .before .before .before .before .before .before) .stands in
+      let b = got-stands (c .more .given .1) (c .before .before .before .before .link2 .ensures) .2 in
+      let d = c .before .before .before .before .before .before .before .before .before .before .before .before .before .before .before .before .before .before .before .pre .1 .room in
+      let f = a .further in
+      let g = a .few in
+      let h = b .further in
+      let i = b .few in
+      (h, b .within, b .some, omega arith)
+
+  pub link-requires : lts.Need-link-requires (claims t) (chained-at t) chained.Post Inv-loop μ-loop
+  link-requires c κs = search needs
+
+  pub enum-known-first : lts.Need-enum-known-first (claims t) (chained-at t) chained.Post Inv-loop μ-loop
+  enum-known-first c = search needs
+
+  pub same-length : lts.Need-same-length (claims t) (chained-at t) chained.Post Inv-loop μ-loop
+  same-length c = search needs
+
+  pub returns : lts.Need-returns (claims t) (chained-at t) chained.Post Inv-loop μ-loop
+  returns c = not-started (chaining (c .before .before .before .before .before .before .before .args .chain)) (joinedSpare (c .before .before .before .before .before .before .before .args .chain)) (c .match .keys2) (c .before .before .before .link .ensures)
+
+  pub loop-holds : lts.Need-loop-holds (claims t) (chained-at t) chained.Post Inv-loop μ-loop
+  loop-holds c = (refl, λ before g. g)
+
+  pub byte-at-requires : lts.Need-byte-at-requires (claims t) (chained-at t) chained.Post Inv-loop μ-loop
+  byte-at-requires c κs = search needs
+
+  pub joint-requires : lts.Need-joint-requires (claims t) (chained-at t) chained.Post Inv-loop μ-loop
+  joint-requires c κs = search needs
+
+  pub add-link : lts.Need-add-link (claims t) (chained-at t) chained.Post Inv-loop μ-loop
+  add-link c = omega (arith, in-text c, c .before .before .before .before .before .before .before .before .before .before .before .before .before .good .0)
+
+  pub link-requires-2 : lts.Need-link-requires-2 (claims t) (chained-at t) chained.Post Inv-loop μ-loop
+  link-requires-2 c κs = 
+      let l = in-text (c .before) in
+      let g = going (c .before .before .before .before) .stands in
+      let f = g .further in
+      let m = c .before .before .before .before .before .before .before .before .before .before .before .before .before .before .pre .0 in
+      (omega arith, ready-after (c .before .before .before .before .before .before .before .before .before .before .before .before .before .before .pre .1) g (kept-length (c .before .before .before .before)) l)
+
+  pub enum-known-more : lts.Need-enum-known-more (claims t) (chained-at t) chained.Post Inv-loop μ-loop
+  enum-known-more c = search needs
+
+  pub same-length-2 : lts.Need-same-length-2 (claims t) (chained-at t) chained.Post Inv-loop μ-loop
+  same-length-2 c = c .before .before .before .link2 .kept .1 .1 .1 .0 ∙ kept-length (c .before .before .before .before .before .before .before .before)
+
+  pub returns-2 : lts.Need-returns-2 (claims t) (chained-at t) chained.Post Inv-loop μ-loop
+  returns-2 c = not-turned (chaining (c .before .before .before .before .before .before .before .before .before .before .before .before .before .before .before .before .before .before .args .chain)) (joinedSpare (c .before .before .before .before .before .before .before .before .before .before .before .before .before .before .before .before .before .before .args .chain)) (going (c .before .before .before .before .before .before .before .before)) (joint-next (c .before .before .before .before .before)) (c .match2 .keys2) (c .before .before .before .link2 .ensures)
+
+  pub kind-of-requires : lts.Need-kind-of-requires (claims t) (chained-at t) chained.Post Inv-loop μ-loop
+  kind-of-requires c κs = search needs
+
+  pub sub-put : lts.Need-sub-put (claims t) (chained-at t) chained.Post Inv-loop μ-loop
+  sub-put c = omega (arith, going (c .before .before .before .before .before .before .before .before .before .before .before .before) .stands .some)
+
+  pub sub-put-2 : lts.Need-sub-put-2 (claims t) (chained-at t) chained.Post Inv-loop μ-loop
+  sub-put-2 c = omega (arith, one-more (c .before .before .before) .2)
+
+  pub put-requires : lts.Need-put-requires (claims t) (chained-at t) chained.Post Inv-loop μ-loop
+  put-requires c κs = omega (arith, one-more (c .before .before .before) .3, c .before .before .before .before .before .before .before .link2 .kept .1 .1 .1 .0, kept-length (c .before .before .before .before .before .before .before .before .before .before .before .before))
+
+  pub add-written : lts.Need-add-written (claims t) (chained-at t) chained.Post Inv-loop μ-loop
+  add-written c = omega (arith, one-more (c .before .before .before .before .before .before) .3, c .before .before .before .before .before .before .before .before .before .before .before .before .before .before .before .before .before .before .before .before .before .before .before .before .before .good .1)
+
+  pub loop-less : lts.Need-loop-less (claims t) (chained-at t) chained.Post Inv-loop μ-loop
+  loop-less c = omega (arith, one-more (c .before .before .before .before .before .before) .0, one-more (c .before .before .before .before .before .before) .1)
+
+  pub loop-again : lts.Need-loop-again (claims t) (chained-at t) chained.Post Inv-loop μ-loop
+  loop-again c = 
+      (c .before .before .put .kept .0 ∙ c .before .before .before .before .before .before .before .before .before .before .link2 .kept .1 .1 .1 .0 ∙ c .before .before .before .before .before .before .before .before .before .before .before .before .before .before .before .loop .inv .0,
+        λ before g. turned (chaining (c .before .before .before .before .before .before .before .before .before .before .before .before .before .before .before .before .before .before .before .before .before .before .before .before .before .args .chain)) (joinedSpare (c .before .before .before .before .before .before .before .before .before .before .before .before .before .before .before .before .before .before .before .before .before .before .before .before .before .args .chain)) (c .before .before .before .before .before .before .before .before .before .before .before .before .before .before .before .loop .inv .1 before g) (joint-next (c .before .before .before .before .before .before .before .before .before .before .before .before)) (c .before .before .before .before .before .before .more .given .1) (c .before .before .before .before .before .before .before .before .before .before .link2 .ensures) (c .before .before .before .kind-of .ensures) (c .before .before .put .ensures))
+
+  pub same-length-3 : lts.Need-same-length-3 (claims t) (chained-at t) chained.Post Inv-loop μ-loop
+  same-length-3 c = kept-length (c .before .before .before)
+
+  pub returns-3 : lts.Need-returns-3 (claims t) (chained-at t) chained.Post Inv-loop μ-loop
+  returns-3 c = ended (chaining (c .before .before .before .before .before .before .before .before .before .before .before .before .before .args .chain)) (joinedSpare (c .before .before .before .before .before .before .before .before .before .before .before .before .before .args .chain)) (going (c .before .before .before)) (λ e. c .if1 .left (c .before .before .byte-at .ensures ∙ e ∙ sym (c .before .joint .ensures)))

@@ -1,0 +1,2 @@
+pub mod Parsing
+pub mod Answering

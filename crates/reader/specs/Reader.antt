@@ -1,0 +1,27 @@
+-- What the parts of call 2 come to: a text is parsed whole, and the table of a text in the grammar is written out if it is within the limits.
+use Prim.Native.Nat.{ℕ, _*_, _≤_}
+use mathlib.Core.Path.{_≡_}
+use lib.ListN.{length, take}
+use Rattle.reply.specs.Reply.{Said}
+use Rattle.reply.specs.Bytes.{Bytes, Written}
+use Rattle.reply.specs.Outcome.{Outcome}
+use Rattle.query.specs.Syntax.{Path}
+use Rattle.query.specs.Table.{entries, entryBytes}
+use Rattle.query.specs.Fault.{curators, Query}
+use Rattle.text.specs.Grammar.{PathText}
+use Rattle.text.specs.Written.{tableOf}
+use Rattle.text.specs.Promise.{OneTooMany, TextFault}
+use Rattle.tokens.specs.declared.answer.Parsed.{Parsed}
+use Rattle.tokens.specs.declared.answer.Parsed.the-variants.{Got, Broken, Deep}
+
+-- The text is one of a path, whose n entries stand at the front of the table; or it has the fault 14 or 15.
+pub data Parses (text : Bytes) : Parsed → Bytes → Type 0 where
+  parses : {p : Path} {at n : ℕ} {after : Bytes} → PathText text p → ((k : ℕ) → ¬ OneTooMany text k) → n ≡ length (tableOf p) → 6 * n ≤ length after
+      → n ≤ 2048 → take (6 * n) after ≡ entryBytes (tableOf p) → Parses text (Got at n) after
+  breaks-off : {i : ℕ} {after : Bytes} → TextFault text 14 i → Parses text (Broken i) after
+  too-many-open : {i : ℕ} {after : Bytes} → TextFault text 15 i → Parses text (Deep i) after
+
+-- The table is written into the room if it is a curator's query, and refused with 16 if not.
+abbrev pub Answered : Bytes → Bytes → Said → Bytes → Type 0
+Answered table before said after =
+    Outcome 0 (Query curators table) (λ n p. (n ≡ 16) × (p ≡ 0) × ¬ Query curators table) (λ c front. (c ≡ length (entries table)) × Written before table front) before said after

@@ -1,0 +1,78 @@
+// Call 2: a query text is read into a table of entries. The text is parsed into a local table, and the lent room is written only once
+// everything is accepted.
+use parser::path;
+use reply::Reason;
+use reply::Reply;
+use reply::refuse;
+use tables::check_query;
+use tables::limits::CURATOR_ENTRIES;
+use tables::limits::CURATOR_HEIGHT;
+use tokens::answer::Parsed;
+ghost use mathlib.Core.Path.{_≡_};
+ghost use Prim.Native.Nat.{_*_, _≤_};
+ghost use lib.ListN.{length};
+ghost use Rattle.reply.specs.Reply.{said};
+ghost use Rattle.text.specs.Promise.{TextLength, TextRead};
+ghost use Rattle.reader.specs.Reader.{Parses, Answered};
+
+// "room 1,536 bytes"
+const ROOM: usize = 1536;
+
+// "1 to 1,024 bytes"
+const MOST_BYTES: usize = 1024;
+
+// Two entries of six bytes for each byte of a text: no text writes more.
+const TABLE: usize = 12288;
+
+// The whole text as a path: nothing may stand behind it.
+fn read_whole(text: &[u8], table: &mut [u8]) -> Parsed
+    requires { ⌜ TextLength (now text) × (12 * length (now text) ≤ length (now table)) ⌝ }
+    ensures { λ r. ⌜ Parses (now (text .entry)) r (now (table .exit)) ⌝ }
+{
+    let parsed = path(text, 0, 0, table, 0);
+    let Parsed::Got { at, count } = parsed else {
+        return parsed;
+    };
+    if at < text.len() {
+        return Parsed::Broken(at);
+    }
+    parsed
+}
+
+// The table of a text in the grammar, written out if it is within the curator's limits.
+fn write_out(table: &[u8], room: &mut [u8]) -> Reply
+    requires { ⌜ 1536 ≤ length (now room) ⌝ }
+    ensures { λ r. ⌜ Answered (now (table .entry)) (now (room .entry)) (said r) (now (room .exit)) ⌝ }
+{
+    let checked = check_query(table, CURATOR_ENTRIES, CURATOR_HEIGHT);
+    let Reply::Count(count) = checked else {
+        return refuse(Reason::TableTooLarge, 0);
+    };
+    bytes::copy(table, room);
+    Reply::Count(count)
+}
+
+// "Read a text into a table; room 1,536 bytes. Gives the number of entries."
+pub fn read_text(text: &[u8], room: &mut [u8]) -> Reply
+    ensures { λ r. ⌜ TextRead (now (text .entry)) (now (room .entry)) (said r) (now (room .exit)) ⌝ }
+{
+    if room.len() < ROOM {
+        return refuse(Reason::ShortRoom, 0);
+    }
+    if text.len() == 0 {
+        return refuse(Reason::TextLength, 0);
+    }
+    if text.len() > MOST_BYTES {
+        return refuse(Reason::TextLength, 0);
+    }
+    let mut table = [0u8; TABLE];
+    let parsed = read_whole(text, &mut table);
+    match parsed {
+        Parsed::Broken(at) => refuse(Reason::NotInGrammar, at),
+        Parsed::Deep(at) => refuse(Reason::TooManyOpen, at),
+        Parsed::Got { at: _, count } => {
+            let size = 6 * count;
+            write_out(&table[..size], room)
+        }
+    }
+}

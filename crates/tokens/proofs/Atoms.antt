@@ -1,0 +1,90 @@
+-- Atoms: by the byte at the place, an axis, a bracket, or none. Assumes nothing.
+use Prim.Native.Nat.{ℕ, _+_, _-_, _*_, _≤_, _<_}
+use native.Mathlib.Omega.{arith}
+use native.Mathlib.Nat.{le-refl}
+use mathlib.Core.Path.{_≡_, refl, sym, ap, _∙_, subst}
+use mathlib.Core.Logic.{⊎-elim}
+use mathlib.Core.List.{[], _∷_, _++_, List·Memᴰ, List·Memᴰ·append-cases}
+use lib.ListN.{length, getD, drop}
+use Rattle.reply.specs.Bytes.{Bytes}
+use Rattle.query.specs.Syntax.{Path, self, child, parent, next, previous, stay, Filter}
+use Rattle.text.specs.Written.{pathEntries}
+use Rattle.reading.proofs.Rules.{Stop, broken, Result, got, stopped, NotAt, atomBytes, AtomReads, FilterReads, PathReads}
+use Rattle.reading.proofs.Rules as rules
+use Rattle.tokens.specs.declared.answer.Parsed.{Parsed}
+use Rattle.tokens.specs.declared.answer.Parsed.the-variants.{Got, Broken, Deep}
+use Rattle.tokens.specs.declared.kind.Bracket.the-variants as bracket
+use Rattle.tokens.specs.Reading.{one, mostOpen, Added, broken-at, Follows, stops, atoms, brackets, Bracketed, closes, stays-open, inner-stops, too-deep, Behind, AxisOf, dot, letter-v, caret, greater, less, no-axis}
+use Rattle.tokens.proofs.Places.{here, inside, not-at, nor, none-of}
+use Rattle.tokens.proofs.Following.{leaf-follows, Turns, turned, wrapped}
+
+-- [ filter ] is a bracket
+square-stops : {k : ℕ} {b more : Bytes} {s : Stop} → Bracketed (FilterReads mostOpen) 93 k (91 ∷ b) (stopped s more) → AtomReads mostOpen k (91 ∷ b) (stopped s more)
+square-stops (stays-open o i n) = rules.square-open o i n
+square-stops (inner-stops o i) = rules.square-stops o i
+square-stops (too-deep d) = rules.square-deep d
+
+square-got : {k : ℕ} {b more : Bytes} {f : Filter} → Bracketed (FilterReads mostOpen) 93 k (91 ∷ b) (got f more) → AtomReads mostOpen k (91 ∷ b) (got (stay f) more)
+square-got (closes o i) = rules.square o i
+
+-- ( path ) is a bracket
+round-stops : {k : ℕ} {b more : Bytes} {s : Stop} → Bracketed (PathReads mostOpen) 41 k (40 ∷ b) (stopped s more) → AtomReads mostOpen k (40 ∷ b) (stopped s more)
+round-stops (stays-open o i n) = rules.round-open o i n
+round-stops (inner-stops o i) = rules.round-stops o i
+round-stops (too-deep d) = rules.round-deep d
+
+round-got : {k : ℕ} {b more : Bytes} {p : Path} → Bracketed (PathReads mostOpen) 41 k (40 ∷ b) (got p more) → AtomReads mostOpen k (40 ∷ b) (got p more)
+round-got (closes o i) = rules.round o i
+
+-- an axis of a kind is read as its one byte, and written as one entry
+axis : (n k : ℕ) {byte kind : ℕ} {b : Bytes} → AxisOf byte kind → (kind ≡ 0 → ⊥) → (x : Path) × AtomReads mostOpen k (byte ∷ b) (got x b) × (pathEntries n x ≡ one kind 0 0 0) × (0 < byte)
+unfolding pathEntries
+axis n k {b = b} (dot e) z = (self, subst (λ (c : ℕ). AtomReads mostOpen k (c ∷ b) (got self b)) (sym e) rules.dot, refl, omega arith)
+axis n k {b = b} (letter-v e) z = (child, subst (λ (c : ℕ). AtomReads mostOpen k (c ∷ b) (got child b)) (sym e) rules.letter-v, refl, omega arith)
+axis n k {b = b} (caret e) z = (parent, subst (λ (c : ℕ). AtomReads mostOpen k (c ∷ b) (got parent b)) (sym e) rules.caret, refl, omega arith)
+axis n k {b = b} (greater e) z = (next, subst (λ (c : ℕ). AtomReads mostOpen k (c ∷ b) (got next b)) (sym e) rules.greater, refl, omega arith)
+axis n k {b = b} (less e) z = (previous, subst (λ (c : ℕ). AtomReads mostOpen k (c ∷ b) (got previous b)) (sym e) rules.less, refl, omega arith)
+axis n k (no-axis a) z = absurd (z refl)
+
+-- the byte of an axis is not 0
+pub axis-seen : {byte kind : ℕ} → AxisOf byte kind → (kind ≡ 0 → ⊥) → 0 < byte
+axis-seen a z = axis 0 0 {b = []} a z .3
+
+-- a byte that is neither a bracket nor an axis begins no atom
+none : {byte kind : ℕ} → (byte ≡ 91 → ⊥) → (byte ≡ 40 → ⊥) → AxisOf byte kind → kind ≡ 0 → ¬ List·Memᴰ byte atomBytes
+none s r (dot e) z m = omega arith
+none s r (letter-v e) z m = omega arith
+none s r (caret e) z m = omega arith
+none s r (greater e) z m = omega arith
+none s r (less e) z m = omega arith
+none s r (no-axis a) z m = ⊎-elim a (nor s (nor r none-of)) (List·Memᴰ·append-cases (46 ∷ 118 ∷ 94 ∷ 62 ∷ 60 ∷ []) m)
+
+module _ {text : Bytes} {at k n : ℕ} {before : Bytes} where
+  -- a square bracket, and the entry behind its filter
+  pub square-follows : {mid after : Bytes} {p r : Parsed} → getD text at 0 ≡ 91 → Follows (brackets bracket.Square) k text at before n p mid → Behind 6 mid p r after
+      → Follows atoms k text at before n r after
+  unfolding pathEntries
+  square-follows e f b = wrapped stay turns (le-refl at) (λ x. refl) (omega arith) f b
+    where
+      turns : Turns (brackets bracket.Square) atoms stay k k (drop at text) (drop at text)
+      turns = subst (λ (s : Bytes). Turns (brackets bracket.Square) atoms stay k k s s) (sym (here text at 91 e (omega arith))) (record { goes = square-got; halts = square-stops })
+
+  -- a round bracket
+  pub round-follows : {after : Bytes} {p : Parsed} → getD text at 0 ≡ 40 → Follows (brackets bracket.Round) k text at before n p after → Follows atoms k text at before n p after
+  round-follows e f = turned (λ x. x) turns (le-refl at) (λ x. refl) (omega arith) f
+    where
+      turns : Turns (brackets bracket.Round) atoms (λ x. x) k k (drop at text) (drop at text)
+      turns = subst (λ (s : Bytes). Turns (brackets bracket.Round) atoms (λ x. x) k k s s) (sym (here text at 40 e (omega arith))) (record { goes = round-got; halts = round-stops })
+
+  -- an axis
+  pub axis-follows : {kind : ℕ} {after : Bytes} {p : Parsed} → AxisOf (getD text at 0) kind → (kind ≡ 0 → ⊥) → (p ≡ Got (at + 1) (n + 1)) × Added before n (one kind 0 0 0) after
+      → Follows atoms k text at before n p after
+  axis-follows a z l =
+      let (x, rd, w, s) = axis n k {b = drop (at + 1) text} a z in
+      let i : at < length text = inside text at s in
+      leaf-follows {to = at + 1} x (subst (λ (b : Bytes). AtomReads mostOpen k b (got x (drop (at + 1) text))) (sym (here text at (getD text at 0) refl s)) rd) w (omega arith) (omega arith) (omega arith) l
+
+  -- no atom
+  pub no-atom : {kind : ℕ} {after : Bytes} → at ≤ length text → (getD text at 0 ≡ 91 → ⊥) → (getD text at 0 ≡ 40 → ⊥) → AxisOf (getD text at 0) kind → kind ≡ 0
+      → Follows atoms k text at before n (Broken at) after
+  no-atom l s r a z = stops broken-at (rules.no-atom (not-at atomBytes text at (none s r a z))) l

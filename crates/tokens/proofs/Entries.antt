@@ -1,0 +1,24 @@
+-- Entries that are added to a table in turn. Assumes nothing.
+use Prim.Native.Nat.{ℕ, _+_, _*_}
+use native.Mathlib.Omega.{arith}
+use native.Mathlib.Nat.{add-assoc}
+use mathlib.Core.Path.{_≡_, refl, sym, ap, _∙_, subst}
+use mathlib.Core.List.{[], _∷_, _++_, append-assoc}
+use lib.ListN.{length, take, length-append}
+use Rattle.reply.specs.Bytes.{Bytes, twoBytes}
+use Rattle.query.specs.Table.{Entries, entryBytes}
+use Rattle.tokens.specs.Reading.{Added}
+
+-- the bytes of two lists of entries stand behind each other
+pub bytes-of-both : (es fs : Entries) → entryBytes (es ++ fs) ≡ entryBytes es ++ entryBytes fs
+unfolding entryBytes twoBytes
+bytes-of-both [] fs = refl
+bytes-of-both (e ∷ es) fs = rw (bytes-of-both es fs)
+
+-- what is added behind what was added
+pub added-on : {t u v : Bytes} {n m : ℕ} {es fs : Entries} → Added t n es u → m ≡ n + length es → Added u m fs v → Added t n (es ++ fs) v
+added-on {t = t} {n = n} {m = m} {es = es} {fs = fs} a e b =
+    let len : n + length (es ++ fs) ≡ m + length fs = omega (arith, length-append es fs) in
+    record {
+      front = rw (len, b .front, e, a .front, bytes-of-both) (append-assoc (take (6 * n) t) (entryBytes es) (entryBytes fs))
+    }

@@ -1,0 +1,12 @@
+pub mod Stores
+pub mod Answers
+pub mod Places
+pub mod Labels
+pub mod Entries
+pub mod Following
+pub mod Chains
+pub mod Stars
+pub mod Enclosed
+pub mod Atoms
+pub mod Terms
+pub mod Chosen

@@ -1,0 +1,76 @@
+-- Terms: by the byte at the place, one of the five, or a path. Assumes nothing.
+use Prim.Native.Nat.{ℕ, _+_, _-_, _*_, _≤_, _<_}
+use native.Mathlib.Omega.{arith}
+use native.Mathlib.Nat.{le-refl, le-add-right}
+use mathlib.Core.Path.{_≡_, refl, sym, ap, _∙_, subst}
+use mathlib.Core.List.{[], _∷_, _++_, List·Memᴰ}
+use lib.ListN.{length, getD, drop}
+use Rattle.reply.specs.Bytes.{Bytes}
+use Rattle.query.specs.Syntax.{Filter, labelled, leads, always, never, not}
+use Rattle.text.specs.Written.{filterEntries}
+use Rattle.reading.proofs.Rules.{Stop, Result, got, stopped, NotAt, termBytes, TermReads, FilterReads}
+use Rattle.reading.proofs.Rules as rules
+use Rattle.tokens.specs.declared.answer.Parsed.{Parsed}
+use Rattle.tokens.specs.declared.answer.Parsed.the-variants.{Got}
+use Rattle.tokens.specs.declared.kind.Bracket.the-variants as bracket
+use Rattle.tokens.specs.Reading.{Line, one, mostOpen, Added, Follows, paths, terms, labels, brackets, Bracketed, closes, stays-open, inner-stops, too-deep, Behind}
+use Rattle.tokens.proofs.Places.{here, inside, not-at}
+use Rattle.tokens.proofs.Following.{leaf-follows, Turns, turned, wrapped}
+
+-- { filter } is a bracket
+curly-stops : {k : ℕ} {b more : Bytes} {s : Stop} → Bracketed (FilterReads mostOpen) 125 k (123 ∷ b) (stopped s more) → TermReads mostOpen k (123 ∷ b) (stopped s more)
+curly-stops (stays-open o i n) = rules.curly-open o i n
+curly-stops (inner-stops o i) = rules.curly-stops o i
+curly-stops (too-deep d) = rules.curly-deep d
+
+curly-got : {k : ℕ} {b more : Bytes} {f : Filter} → Bracketed (FilterReads mostOpen) 125 k (123 ∷ b) (got f more) → TermReads mostOpen k (123 ∷ b) (got f more)
+curly-got (closes o i) = rules.curly o i
+
+-- what is read behind a byte is read with it
+from-behind : (text : Bytes) (at : ℕ) {line : Line} {wrap : line .Thing → Filter} {j k byte : ℕ} → getD text at 0 ≡ byte → 0 < byte
+    → Turns line terms wrap j k (drop (at + 1) text) (byte ∷ drop (at + 1) text) → Turns line terms wrap j k (drop (at + 1) text) (drop at text)
+from-behind text at {line = line} {wrap = wrap} {j = j} {k = k} {byte = byte} e s t =
+    subst (λ (b : Bytes). Turns line terms wrap j k (drop (at + 1) text) b) (sym (here text at byte e s)) t
+
+module _ {text : Bytes} {at k n : ℕ} {before : Bytes} where
+  -- a term that is one byte
+  letter : {byte kind : ℕ} {after : Bytes} {p : Parsed} (f : Filter) → getD text at 0 ≡ byte → 0 < byte → TermReads mostOpen k (byte ∷ drop (at + 1) text) (got f (drop (at + 1) text))
+      → filterEntries n f ≡ one kind 0 0 0 → (p ≡ Got (at + 1) (n + 1)) × Added before n (one kind 0 0 0) after → Follows terms k text at before n p after
+  letter {byte = byte} f e s rd w l =
+      let i : at < length text = inside text at (omega arith) in
+      leaf-follows {to = at + 1} f (subst (λ (b : Bytes). TermReads mostOpen k b (got f (drop (at + 1) text))) (sym (here text at byte e s)) rd) w (omega arith) (omega arith) (omega arith) l
+
+  pub t-follows : {after : Bytes} {p : Parsed} → getD text at 0 ≡ 116 → (p ≡ Got (at + 1) (n + 1)) × Added before n (one 18 0 0 0) after → Follows terms k text at before n p after
+  unfolding filterEntries
+  t-follows e l = letter always e (omega arith) rules.letter-t refl l
+
+  pub f-follows : {after : Bytes} {p : Parsed} → getD text at 0 ≡ 102 → (p ≡ Got (at + 1) (n + 1)) × Added before n (one 19 0 0 0) after → Follows terms k text at before n p after
+  unfolding filterEntries
+  f-follows e l = letter never e (omega arith) rules.letter-f refl l
+
+  -- ! term
+  pub not-follows : {mid after : Bytes} {p r : Parsed} → getD text at 0 ≡ 33 → Follows terms k text (at + 1) before n p mid → Behind 20 mid p r after → Follows terms k text at before n r after
+  unfolding filterEntries
+  not-follows e f b =
+      wrapped not (from-behind text at e (omega arith) (record { goes = rules.exclamation; halts = rules.exclamation-stops })) (le-add-right at 1) (λ x. refl) (omega arith) f b
+
+  -- # label
+  pub label-follows : {after : Bytes} {p : Parsed} → getD text at 0 ≡ 35 → Follows labels 0 text (at + 1) before n p after → Follows terms k text at before n p after
+  unfolding filterEntries
+  label-follows e f =
+      turned labelled (from-behind text at e (omega arith) (record { goes = rules.hash; halts = rules.hash-stops })) (le-add-right at 1) (λ x. refl) (omega arith) f
+
+  -- { filter }
+  pub curly-follows : {after : Bytes} {p : Parsed} → getD text at 0 ≡ 123 → Follows (brackets bracket.Curly) k text at before n p after → Follows terms k text at before n p after
+  curly-follows e f = turned (λ x. x) turns (le-refl at) (λ x. refl) (omega arith) f
+    where
+      turns : Turns (brackets bracket.Curly) terms (λ x. x) k k (drop at text) (drop at text)
+      turns = subst (λ (s : Bytes). Turns (brackets bracket.Curly) terms (λ x. x) k k s s) (sym (here text at 123 e (omega arith))) (record { goes = curly-got; halts = curly-stops })
+
+  -- a path
+  pub leads-follows : {mid after : Bytes} {p r : Parsed} → ¬ List·Memᴰ (getD text at 0) termBytes → Follows paths k text at before n p mid → Behind 17 mid p r after
+      → Follows terms k text at before n r after
+  unfolding filterEntries
+  leads-follows a f b =
+      let off : NotAt termBytes (drop at text) = not-at termBytes text at a in
+      wrapped leads (record { goes = rules.a-path off; halts = rules.a-path-stops off }) (le-refl at) (λ x. refl) (omega arith) f b

@@ -1,0 +1,48 @@
+// The entries of the local table, each of six bytes.
+use crate::answer::Parsed;
+ghost use mathlib.Core.Path.{_≡_};
+ghost use Prim.Native.Nat.{_+_, _*_, _≤_};
+ghost use lib.ListN.{length};
+ghost use Rattle.tokens.specs.Reading.{one, Added, RoomBehind, Behind};
+ghost use Rattle.tokens.specs.declared.answer.Parsed.the-variants.{Got};
+
+// Writes an entry behind the `count` entries that the table has.
+pub fn put(table: &mut [u8], count: usize, kind: u8, label: u8, left: usize, right: usize)
+    requires { ⌜ 6 * (count + 1) ≤ length (now table) ⌝ }
+    ensures { λ _. ⌜ Added (now (table .entry)) count (one kind label left right) (now (table .exit)) ⌝ }
+{
+    let at = 6 * count;
+    table[at] = kind;
+    table[at + 1] = label;
+    table[at + 2] = (left % 256) as u8;
+    table[at + 3] = (left / 256 % 256) as u8;
+    table[at + 4] = (right % 256) as u8;
+    table[at + 5] = (right / 256 % 256) as u8;
+}
+
+// Writes an entry without operands; the text is read up to `next`.
+pub fn leaf(table: &mut [u8], count: usize, kind: u8, label: u8, next: usize) -> Parsed
+    requires { ⌜ 6 * (count + 1) ≤ length (now table) ⌝ }
+    ensures { λ r. ⌜ (r ≡ Got next (count + 1)) × Added (now (table .entry)) count (one kind label 0 0) (now (table .exit)) ⌝ }
+{
+    put(table, count, kind, label, 0, 0);
+    Parsed::Got {
+        at: next,
+        count: count + 1,
+    }
+}
+
+// Writes an entry behind its one operand, where that was read.
+pub fn behind(table: &mut [u8], operand: Parsed, kind: u8) -> Parsed
+    requires { ⌜ RoomBehind operand (now table) ⌝ }
+    ensures { λ r. ⌜ Behind kind (now (table .entry)) operand r (now (table .exit)) ⌝ }
+{
+    let Parsed::Got { at, count } = operand else {
+        return operand;
+    };
+    put(table, count, kind, 0, count - 1, 0);
+    Parsed::Got {
+        at,
+        count: count + 1,
+    }
+}

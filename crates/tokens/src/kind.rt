@@ -1,0 +1,98 @@
+// The numbers of the kinds, and the bytes that stand for them in a text.
+ghost use mathlib.Core.Path.{_≡_};
+ghost use Rattle.tokens.specs.Reading.{joining, joinedKind, closingByte, AxisOf};
+
+pub const SELF: u8 = 1;
+
+pub const CHILD: u8 = 2;
+
+pub const PARENT: u8 = 3;
+
+pub const NEXT: u8 = 4;
+
+pub const PREVIOUS: u8 = 5;
+
+pub const STAY: u8 = 6;
+
+pub const THEN: u8 = 7;
+
+pub const EITHER: u8 = 8;
+
+pub const STAR: u8 = 9;
+
+pub const LABELLED: u8 = 16;
+
+pub const LEADS: u8 = 17;
+
+pub const ALWAYS: u8 = 18;
+
+pub const NEVER: u8 = 19;
+
+pub const NOT: u8 = 20;
+
+pub const AND: u8 = 21;
+
+pub const OR: u8 = 22;
+
+// What is made of links that a byte joins.
+pub enum Chain {
+    Path,
+    Sequence,
+    Filter,
+    Conjunction,
+}
+
+// The byte that joins the links of a chain.
+pub fn joint(chain: Chain) -> u8
+    ensures { λ r. ⌜ r ≡ joining chain ⌝ }
+{
+    match chain {
+        Chain::Path => b'|',
+        Chain::Sequence => b'/',
+        Chain::Filter => b'+',
+        Chain::Conjunction => b'&',
+    }
+}
+
+// The kind of two links that are joined.
+pub fn kind_of(chain: Chain) -> u8
+    ensures { λ r. ⌜ r ≡ joinedKind chain ⌝ }
+{
+    match chain {
+        Chain::Path => EITHER,
+        Chain::Sequence => THEN,
+        Chain::Filter => OR,
+        Chain::Conjunction => AND,
+    }
+}
+
+pub enum Bracket {
+    Square,
+    Round,
+    Curly,
+}
+
+// The byte that closes a bracket.
+pub fn closing(bracket: Bracket) -> u8
+    ensures { λ r. ⌜ r ≡ closingByte bracket ⌝ }
+{
+    match bracket {
+        Bracket::Square => b']',
+        Bracket::Round => b')',
+        Bracket::Curly => b'}',
+    }
+}
+
+// The kind of an atom that is one byte, 0 of any other byte.
+pub fn axis(byte: u8) -> u8
+    ensures { λ r. ⌜ AxisOf byte r ⌝ }
+{
+    match byte {
+        b'.' => SELF,
+        b'v' => CHILD,
+        b'^' => PARENT,
+        b'>' => NEXT,
+        b'<' => PREVIOUS,
+        _ => 0,
+    }
+}
