@@ -108,7 +108,7 @@ module _ (text before : Bytes) where
         go : {s : Said} {after : Bytes} → Answered (entryBytes (tableOf (found .path))) before s after → TextRead text before s after
         go (done z query made) =
             let right-text : TextOf (found .path) text =
-                record { length = right; path = found .text-of; shallow = found .shallow; fits = query-fits (found .text-of) short-table query } in
+            record { length = right; path = found .text-of; shallow = found .shallow; fits = query-fits (found .text-of) short-table query } in
             let count = made .0 ∙ ap length (table-back (found .path) short-table) in
             done room (found .path, right-text) (record { path = found .path; text-of = right-text; count = count; written = made .1 })
         go (short less) = absurd (omega arith)

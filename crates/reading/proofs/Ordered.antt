@@ -84,9 +84,9 @@ module _ (before : Entries) (kind : ℕ) {row : Row} (listed : rowOf kind ≡ so
       let c = q .some in
       let place : length (before ++ es) + length fs - 1 ≡ length before + length es + length fs - 1 = omega arith in
       let left : HasSort table (length before + length es - 1) s =
-          subst (λ (t : Entries). HasSort t (length before + length es - 1) s) group (sort-kept (before ++ es) fs (length before + length es - 1) (omega arith) (o .last)) in
+      subst (λ (t : Entries). HasSort t (length before + length es - 1) s) group (sort-kept (before ++ es) fs (length before + length es - 1) (omega arith) (o .last)) in
       let right : HasSort table (length before + length es + length fs - 1) u =
-          subst (λ (t : Entries). HasSort t (length before + length es + length fs - 1) u) group (subst (λ (i : ℕ). HasSort ((before ++ es) ++ fs) i u) place (q .last)) in
+      subst (λ (t : Entries). HasSort t (length before + length es + length fs - 1) u) group (subst (λ (i : ℕ). HasSort ((before ++ es) ++ fs) i u) place (q .last)) in
       subst (λ (all : Entries). Ordered before all (row .sort)) (append-assoc es fs (e ∷ []))
       (closed {before = before} {es = es ++ fs} e row listed (both-right (o .all) (q .all)) (subst (λ (w : Bool). LabelField w 0) (sym b) refl)
       (subst (λ (d : Operand). OperandField table (length table) d (e .left)) (sym l) (omega arith, left))

@@ -105,10 +105,10 @@ module _ {A : Type 0} {link whole : ℕ → Bytes → Result A → Type 0} {more
           let i = st .further in
           let own : Entries = one kind 0 (m - 1) (l - 1) in
           let both : written n (join x y) ≡ es ++ (fs ++ own) =
-              subst (λ (i : ℕ). written n (join x y) ≡ es ++ (fs ++ one kind 0 (m - 1) (i - 1))) (sym d)
-              (subst (λ (i : ℕ). written n (join x y) ≡ es ++ (written i y ++ one kind 0 (i - 1) (i + length (written i y) - 1))) (sym c) (chained .writes n x y)) in
+          subst (λ (i : ℕ). written n (join x y) ≡ es ++ (fs ++ one kind 0 (m - 1) (i - 1))) (sym d)
+          (subst (λ (i : ℕ). written n (join x y) ≡ es ++ (written i y ++ one kind 0 (i - 1) (i + length (written i y) - 1))) (sym c) (chained .writes n x y)) in
           let len : length (written n (join x y)) ≡ length es + (length fs + 1) =
-              ap length both ∙ length-append es (fs ++ own) ∙ ap (λ (j : ℕ). length es + j) (length-append fs own) in
+          ap length both ∙ length-append es (fs ++ own) ∙ ap (λ (j : ℕ). length es + j) (length-append fs own) in
           record {
             thing = join x y;
             goes-on = λ r w. going .goes-on r (subst (λ (b : Bytes). more k x b r) (sym joint) (chained .joins rd w));
@@ -118,6 +118,6 @@ module _ {A : Type 0} {link whole : ℕ → Bytes → Result A → Type 0} {more
               within = st .within;
               count = omega arith;
               few = omega arith;
-              table = subst (λ (gs : Entries). Added before n gs last) (sym both) (added-on (going .stands .table) c (added-on (st .table) d a))
-            }
+              table = subst (λ (gs : Entries). Added before n gs last) (sym both) (added-on (going .stands .table) c (added-on (st .table) d a));
+            };
           }

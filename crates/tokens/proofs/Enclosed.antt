@@ -37,14 +37,14 @@ module _ {A : Type 0} (reads : ℕ → Bytes → Result A → Type 0) (written :
       let f = st .few in
       let i : to < length text = inside text to (omega arith) in
       let inner : reads (suc k) (drop (at + 1) text) (got x (close ∷ drop (to + 1) text)) =
-          subst (λ (b : Bytes). reads (suc k) (drop (at + 1) text) (got x b)) (here text to close e seen) (rw (add-one k) at rd) in
+      subst (λ (b : Bytes). reads (suc k) (drop (at + 1) text) (got x b)) (here text to close e seen) (rw (add-one k) at rd) in
       follows {to = to + 1} (opened (closes o inner)) (record {
         further = omega arith;
         some = st .some;
         within = omega arith;
         count = st .count;
         few = omega arith;
-        table = st .table
+        table = st .table;
       })
   bracket-read {k = k} o (follows {to = to} rd st) (open-at e) =
       stops broken-at (opened (stays-open o (rw (add-one k) at rd) (not-at (close ∷ []) text to (nor e none-of)))) (st .within)

@@ -20,5 +20,5 @@ pub added-on : {t u v : Bytes} {n m : ℕ} {es fs : Entries} → Added t n es u 
 added-on {t = t} {n = n} {m = m} {es = es} {fs = fs} a e b =
     let len : n + length (es ++ fs) ≡ m + length fs = omega (arith, length-append es fs) in
     record {
-      front = rw (len, b .front, e, a .front, bytes-of-both) (append-assoc (take (6 * n) t) (entryBytes es) (entryBytes fs))
+      front = rw (len, b .front, e, a .front, bytes-of-both) (append-assoc (take (6 * n) t) (entryBytes es) (entryBytes fs));
     }

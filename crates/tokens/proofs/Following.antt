@@ -52,7 +52,7 @@ module _ {line : Line} {k : ℕ} {text : Bytes} {at : ℕ} {before after : Bytes
         within = i;
         count = omega arith;
         few = omega arith;
-        table = subst (λ (es : Entries). Added before n es after) (sym w) (e .1)
+        table = subst (λ (es : Entries). Added before n es after) (sym w) (e .1);
       }))
 
   -- behind what was read from `from`, at or behind `at`, there is room for one more entry
@@ -88,7 +88,7 @@ module _ {line outer : Line} (wrap : line .Thing → outer .Thing) {k j : ℕ} {
         within = st .within;
         count = omega arith;
         few = omega arith;
-        table = subst (λ (es : Entries). Added before n es mid) (sym (writes x)) (st .table)
+        table = subst (λ (es : Entries). Added before n es mid) (sym (writes x)) (st .table);
       })
   turned writes s (stops st rd w) = stops st (turns .halts rd) w
 
@@ -111,7 +111,7 @@ module _ {line outer : Line} (wrap : line .Thing → outer .Thing) {k j : ℕ} {
         within = st .within;
         count = omega arith;
         few = omega arith;
-        table = subst (λ (fs : Entries). Added before n fs after) (sym (writes x)) (added-on (st .table) b last)
+        table = subst (λ (fs : Entries). Added before n fs after) (sym (writes x)) (added-on (st .table) b last);
       })
   wrapped writes s (follows rd st) (passed-on no-such) = absurd (no-stop no-such)
   wrapped writes s (stops no-such rd w) (behind b) = absurd (no-stop no-such)

@@ -57,6 +57,6 @@ module _ {k : ℕ} {text : Bytes} {at : ℕ} {before : Bytes} {n : ℕ} where
             within = omega arith;
             count = omega arith;
             few = omega arith;
-            table = added-on (going .stands .table) c own
-          }
+            table = added-on (going .stands .table) c own;
+          };
         }

@@ -20,7 +20,7 @@ run t i vs h =
 -- the bytes of an entry, stored one by one behind n entries
 pub stored : (t : Bytes) (n kind label left right : ℕ) → 6 * (n + 1) ≤ length t
     → Added t n (one kind label left right)
-        (set (set (set (set (set (set t (6 * n) kind) (6 * n + 1) label) (6 * n + 2) (left % 256)) (6 * n + 3) (left / 256 % 256)) (6 * n + 4) (right % 256)) (6 * n + 5) (right / 256 % 256))
+    (set (set (set (set (set (set t (6 * n) kind) (6 * n + 1) label) (6 * n + 2) (left % 256)) (6 * n + 3) (left / 256 % 256)) (6 * n + 4) (right % 256)) (6 * n + 5) (right / 256 % 256))
 unfolding entryBytes twoBytes
 stored t n kind label left right h =
     let end : 6 * (n + 1) ≡ 6 * n + 6 = omega arith in
