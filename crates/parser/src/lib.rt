@@ -41,27 +41,52 @@ fn filter(text: &[u8], at: usize, depth: usize, table: &mut [u8], count: usize) 
 }
 
 // Links joined by a byte, grouping to the left.
-fn chained(text: &[u8], at: usize, depth: usize, table: &mut [u8], count: usize, chain: Chain) -> Parsed
+fn chained(
+    text: &[u8],
+    at: usize,
+    depth: usize,
+    table: &mut [u8],
+    count: usize,
+    chain: Chain,
+) -> Parsed
     requires { ⌜ Ready (now text) at (now table) count ⌝ }
     ensures { λ r. ⌜ Follows (chains chain) depth (now (text .entry)) at (now (table .entry)) count r (now (table .exit)) ⌝ }
 {
     let first = link(text, at, depth, table, count, chain);
-    let Parsed::Got { at: mut next, count: mut written } = first else {
+    let Parsed::Got {
+        at: mut next,
+        count: mut written,
+    } = first
+    else {
         return first;
     };
     while byte_at(text, next) == joint(chain) {
         let more = link(text, next + 1, depth, table, written, chain);
-        let Parsed::Got { at: last, count: right } = more else {
+        let Parsed::Got {
+            at: last,
+            count: right,
+        } = more
+        else {
             return more;
         };
         put(table, right, kind_of(chain), 0, written - 1, right - 1);
         next = last;
         written = right + 1;
     }
-    Parsed::Got { at: next, count: written }
+    Parsed::Got {
+        at: next,
+        count: written,
+    }
 }
 
-fn link(text: &[u8], at: usize, depth: usize, table: &mut [u8], count: usize, chain: Chain) -> Parsed
+fn link(
+    text: &[u8],
+    at: usize,
+    depth: usize,
+    table: &mut [u8],
+    count: usize,
+    chain: Chain,
+) -> Parsed
     requires { ⌜ Ready (now text) at (now table) count ⌝ }
     ensures { λ r. ⌜ Follows (links chain) depth (now (text .entry)) at (now (table .entry)) count r (now (table .exit)) ⌝ }
 {
@@ -79,7 +104,11 @@ fn item(text: &[u8], at: usize, depth: usize, table: &mut [u8], count: usize) ->
     ensures { λ r. ⌜ Follows items depth (now (text .entry)) at (now (table .entry)) count r (now (table .exit)) ⌝ }
 {
     let first = atom(text, at, depth, table, count);
-    let Parsed::Got { at: mut next, count: mut written } = first else {
+    let Parsed::Got {
+        at: mut next,
+        count: mut written,
+    } = first
+    else {
         return first;
     };
     while byte_at(text, next) == b'*' {
@@ -87,7 +116,10 @@ fn item(text: &[u8], at: usize, depth: usize, table: &mut [u8], count: usize) ->
         next += 1;
         written += 1;
     }
-    Parsed::Got { at: next, count: written }
+    Parsed::Got {
+        at: next,
+        count: written,
+    }
 }
 
 fn atom(text: &[u8], at: usize, depth: usize, table: &mut [u8], count: usize) -> Parsed
@@ -110,7 +142,14 @@ fn atom(text: &[u8], at: usize, depth: usize, table: &mut [u8], count: usize) ->
 }
 
 // What stands in a bracket that opens at `at`.
-fn bracketed(text: &[u8], at: usize, depth: usize, table: &mut [u8], count: usize, bracket: Bracket) -> Parsed
+fn bracketed(
+    text: &[u8],
+    at: usize,
+    depth: usize,
+    table: &mut [u8],
+    count: usize,
+    bracket: Bracket,
+) -> Parsed
     requires { ⌜ Ready (now text) at (now table) count × (at < length (now text)) ⌝ }
     ensures { λ r. ⌜ Follows (brackets bracket) depth (now (text .entry)) at (now (table .entry)) count r (now (table .exit)) ⌝ }
 {

@@ -11,17 +11,17 @@ use Rattle.reply.specs.declared.Reply.{Reply}
 use Rattle.reply.specs.declared.Reply.the-variants.{Count, Refused}
 use Rattle.reply.specs.Reply.{Said, number, count, refused, said}
 use Rattle.reply.specs.Bytes.{Bytes}
-use Rattle.reply.specs.Outcome.{Outcome, done, short, turned-away}
+use Rattle.reply.specs.Outcome.{done, short, turned-away}
 use Rattle.reply.proofs.Reply as the-reply
 use Rattle.reply.proofs.Checking.{counted, faulted}
 use Rattle.query.specs.Syntax.{Path}
-use Rattle.query.specs.Table.{Entries, entries, entryBytes}
+use Rattle.query.specs.Table.{entries, entryBytes}
 use Rattle.query.specs.Fault.{curators, Query}
 use Rattle.query.proofs.Unique.{query-wrong}
 use Rattle.tables.specs.Promise.{QueryChecked}
 use Rattle.text.specs.Grammar.{PathText}
 use Rattle.text.specs.Written.{tableOf}
-use Rattle.text.specs.Promise.{TextLength, OneTooMany, Fits, TextFault, bad-length, too-large, TextOf, TableGiven, TextRead}
+use Rattle.text.specs.Promise.{TextLength, OneTooMany, TextFault, too-large, TextOf, TextRead}
 use Rattle.reading.proofs.Back.{table-back}
 use Rattle.reading.proofs.Accepted.{fits-query, query-fits}
 use Rattle.tokens.specs.declared.answer.Parsed.{Parsed}
@@ -108,7 +108,7 @@ module _ (text before : Bytes) where
         go : {s : Said} {after : Bytes} → Answered (entryBytes (tableOf (found .path))) before s after → TextRead text before s after
         go (done z query made) =
             let right-text : TextOf (found .path) text =
-                record { length = right; path = found .text-of; shallow = found .shallow; fits = query-fits (found .text-of) short-table query } in
+            record { length = right; path = found .text-of; shallow = found .shallow; fits = query-fits (found .text-of) short-table query } in
             let count = made .0 ∙ ap length (table-back (found .path) short-table) in
             done room (found .path, right-text) (record { path = found .path; text-of = right-text; count = count; written = made .1 })
         go (short less) = absurd (omega arith)

@@ -2,20 +2,20 @@
 use Prim.Native.Nat.{ℕ, suc, _+_, _-_, _*_, _≤_, _<_}
 use native.Mathlib.Omega.{arith}
 use native.Mathlib.Nat.{zero-add}
-use mathlib.Core.Path.{_≡_, refl, sym, ap, _∙_, subst}
-use mathlib.Core.List.{[], _∷_, _++_}
+use mathlib.Core.Path.{_≡_, sym, _∙_, subst}
+use mathlib.Core.List.{[], _∷_}
 use lib.ListN.{length, getD, take, drop, length-drop, drop-of-length-le}
 use Rattle.reply.specs.Bytes.{Bytes}
 use Rattle.query.specs.Syntax.{Path}
-use Rattle.query.specs.Table.{Entries, entryBytes}
+use Rattle.query.specs.Table.{entryBytes}
 use Rattle.text.specs.Grammar.{PathText}
 use Rattle.text.specs.Written.{tableOf, pathEntries}
 use Rattle.text.specs.Promise.{TextLength, OneTooMany, TextFault}
-use Rattle.reading.proofs.Rules.{Stop, Result, got, stopped, PathReads}
+use Rattle.reading.proofs.Rules.{Stop, got, stopped, PathReads}
 use Rattle.reading.proofs.Rules as rules
 use Rattle.reading.proofs.Judged.{Judged, read, not-whole, broken, deep, judged}
 use Rattle.tokens.specs.declared.answer.Parsed.{Parsed}
-use Rattle.tokens.specs.declared.answer.Parsed.the-variants.{Got, Broken, Deep}
+use Rattle.tokens.specs.declared.answer.Parsed.the-variants.{Got, Broken}
 use Rattle.tokens.specs.Reading.{StopsAt, broken-at, deep-at, Follows, follows, stops, paths}
 use Rattle.tokens.proofs.Places.{begins}
 use Rattle.tokens.proofs.Answers.{Failed, not-failed}

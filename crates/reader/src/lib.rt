@@ -8,7 +8,6 @@ use tables::check_query;
 use tables::limits::CURATOR_ENTRIES;
 use tables::limits::CURATOR_HEIGHT;
 use tokens::answer::Parsed;
-ghost use mathlib.Core.Path.{_≡_};
 ghost use Prim.Native.Nat.{_*_, _≤_};
 ghost use lib.ListN.{length};
 ghost use Rattle.reply.specs.Reply.{said};

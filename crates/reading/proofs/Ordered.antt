@@ -2,7 +2,7 @@
 use Prim.Native.Nat.{ℕ, _+_, _-_, _≤_, _<_}
 use native.Mathlib.Nat.{zero-add}
 use native.Mathlib.Omega.{arith}
-use mathlib.Core.Path.{_≡_, refl, sym, ap, _∙_, subst}
+use mathlib.Core.Path.{_≡_, refl, sym, subst}
 use mathlib.Core.Bool.{Bool, false}
 use mathlib.Core.List.{[], _∷_, _++_, append-assoc}
 use mathlib.Core.Option.{some}
@@ -10,11 +10,10 @@ use lib.ListN.{length, length-append}
 use Rattle.reply.specs.Bytes.{Bytes}
 use Rattle.tree.specs.Tree.{Label}
 use Rattle.query.specs.Kind.{Sort, path, filter, Operand, unused, of, Row, find, kinds, rowOf}
-use Rattle.query.specs.Syntax.{Path, self, child, parent, next, previous, stay, then, either, star}
-use Rattle.query.specs.Syntax.{Filter, labelled, leads, always, never, not, and, or}
+use Rattle.query.specs.Syntax.{Path}
 use Rattle.query.specs.Table.{Entry, Entries, HasSort, LabelField, OperandField, EntryRight}
 use Rattle.query.proofs.Appended.{AllRight, both-right, sort-kept, sort-at-end, right-at-end}
-use Rattle.text.specs.Grammar.{LabelText, one-digit, two-digits, PathText, SequenceText, ItemText, AtomText, FilterText, ConjunctionText, TermText}
+use Rattle.text.specs.Grammar.{LabelText, one-digit, two-digits, PathText}
 use Rattle.text.specs.Grammar as grammar
 use Rattle.text.specs.Written.{pathEntries, filterEntries, tableOf}
 
@@ -84,9 +83,9 @@ module _ (before : Entries) (kind : ℕ) {row : Row} (listed : rowOf kind ≡ so
       let c = q .some in
       let place : length (before ++ es) + length fs - 1 ≡ length before + length es + length fs - 1 = omega arith in
       let left : HasSort table (length before + length es - 1) s =
-          subst (λ (t : Entries). HasSort t (length before + length es - 1) s) group (sort-kept (before ++ es) fs (length before + length es - 1) (omega arith) (o .last)) in
+      subst (λ (t : Entries). HasSort t (length before + length es - 1) s) group (sort-kept (before ++ es) fs (length before + length es - 1) (omega arith) (o .last)) in
       let right : HasSort table (length before + length es + length fs - 1) u =
-          subst (λ (t : Entries). HasSort t (length before + length es + length fs - 1) u) group (subst (λ (i : ℕ). HasSort ((before ++ es) ++ fs) i u) place (q .last)) in
+      subst (λ (t : Entries). HasSort t (length before + length es + length fs - 1) u) group (subst (λ (i : ℕ). HasSort ((before ++ es) ++ fs) i u) place (q .last)) in
       subst (λ (all : Entries). Ordered before all (row .sort)) (append-assoc es fs (e ∷ []))
       (closed {before = before} {es = es ++ fs} e row listed (both-right (o .all) (q .all)) (subst (λ (w : Bool). LabelField w 0) (sym b) refl)
       (subst (λ (d : Operand). OperandField table (length table) d (e .left)) (sym l) (omega arith, left))

@@ -2,7 +2,7 @@
 use Prim.Native.Nat.{ℕ, _+_, _-_, _*_, _≤_}
 use native.Mathlib.Omega.{arith}
 use mathlib.Core.Path.{_≡_, sym, subst}
-use mathlib.Core.Logic.{_⊎_, inl, inr}
+use mathlib.Core.Logic.{inl, inr}
 use mathlib.Core.List.{[], _∷_}
 use lib.ListN.{length, getD}
 use denote.Enum.Declared.{tagOf}
@@ -11,7 +11,7 @@ use Rattle.reply.specs.Bytes.{Bytes}
 use Rattle.reading.proofs.Rules.{Stop, broken, deep}
 use Rattle.tokens.specs.declared.answer.Parsed.{Parsed}
 use Rattle.tokens.specs.declared.answer.Parsed.the-variants.{Got, Broken, Deep}
-use Rattle.tokens.specs.Reading.{StopsAt, broken-at, deep-at, RoomBehind, Behind, behind, passed-on, Added, one, placeOf, Closed, closed-by, open-at}
+use Rattle.tokens.specs.Reading.{StopsAt, broken-at, deep-at, RoomBehind, Behind, behind, Added, one, placeOf, Closed, closed-by, open-at}
 use Rattle.tokens.proofs.answer.Parsed as parsed
 
 -- the answer is one of the stops

@@ -1,18 +1,18 @@
 -- Atoms: by the byte at the place, an axis, a bracket, or none. Assumes nothing.
-use Prim.Native.Nat.{ℕ, _+_, _-_, _*_, _≤_, _<_}
+use Prim.Native.Nat.{ℕ, _+_, _≤_, _<_}
 use native.Mathlib.Omega.{arith}
 use native.Mathlib.Nat.{le-refl}
-use mathlib.Core.Path.{_≡_, refl, sym, ap, _∙_, subst}
+use mathlib.Core.Path.{_≡_, refl, sym, subst}
 use mathlib.Core.Logic.{⊎-elim}
-use mathlib.Core.List.{[], _∷_, _++_, List·Memᴰ, List·Memᴰ·append-cases}
+use mathlib.Core.List.{[], _∷_, List·Memᴰ, List·Memᴰ·append-cases}
 use lib.ListN.{length, getD, drop}
 use Rattle.reply.specs.Bytes.{Bytes}
 use Rattle.query.specs.Syntax.{Path, self, child, parent, next, previous, stay, Filter}
 use Rattle.text.specs.Written.{pathEntries}
-use Rattle.reading.proofs.Rules.{Stop, broken, Result, got, stopped, NotAt, atomBytes, AtomReads, FilterReads, PathReads}
+use Rattle.reading.proofs.Rules.{Stop, got, stopped, atomBytes, AtomReads, FilterReads, PathReads}
 use Rattle.reading.proofs.Rules as rules
 use Rattle.tokens.specs.declared.answer.Parsed.{Parsed}
-use Rattle.tokens.specs.declared.answer.Parsed.the-variants.{Got, Broken, Deep}
+use Rattle.tokens.specs.declared.answer.Parsed.the-variants.{Got, Broken}
 use Rattle.tokens.specs.declared.kind.Bracket.the-variants as bracket
 use Rattle.tokens.specs.Reading.{one, mostOpen, Added, broken-at, Follows, stops, atoms, brackets, Bracketed, closes, stays-open, inner-stops, too-deep, Behind, AxisOf, dot, letter-v, caret, greater, less, no-axis}
 use Rattle.tokens.proofs.Places.{here, inside, not-at, nor, none-of}

@@ -1,22 +1,22 @@
 -- Links that are joined in turn, grouping to the left; and an atom with its stars. Assumes nothing.
-use Prim.Native.Nat.{ℕ, _+_, _-_, _*_, _≤_, _<_}
+use Prim.Native.Nat.{ℕ, _+_, _-_, _<_}
 use native.Mathlib.Omega.{arith}
 use mathlib.Core.Path.{_≡_, refl, sym, ap, _∙_, subst}
 use mathlib.Core.List.{[], _∷_, _++_}
 use lib.ListN.{length, getD, drop, length-append}
 use Rattle.reply.specs.Bytes.{Bytes}
-use Rattle.query.specs.Syntax.{Path, then, either, star, Filter, and, or}
+use Rattle.query.specs.Syntax.{Path, then, either, Filter, and, or}
 use Rattle.query.specs.Table.{Entries}
-use Rattle.text.specs.Written.{pathEntries, filterEntries}
-use Rattle.reading.proofs.Rules.{Stop, Result, got, stopped, NotAt, PathGoesOn, SequenceGoesOn, FilterGoesOn, ConjunctionGoesOn, StarsRead}
+use Rattle.text.specs.Written.{pathEntries}
+use Rattle.reading.proofs.Rules.{Stop, Result, got, stopped, NotAt, PathGoesOn, SequenceGoesOn, FilterGoesOn, ConjunctionGoesOn}
 use Rattle.reading.proofs.Rules as rules
 use Rattle.tokens.specs.declared.answer.Parsed.{Parsed}
-use Rattle.tokens.specs.declared.answer.Parsed.the-variants.{Got, Broken, Deep}
+use Rattle.tokens.specs.declared.answer.Parsed.the-variants.{Got}
 use Rattle.tokens.specs.declared.kind.Chain.{Chain}
 use Rattle.tokens.specs.declared.kind.Chain.the-variants as chain
-use Rattle.tokens.specs.Reading.{Line, asLine, one, Added, Stands, StopsAt, Follows, follows, stops, Ready, mostOpen, Joined, joinedEntries, joinedSpare, ChainReads, LinkReads, chains, links, joining, joinedKind, items, atoms}
+use Rattle.tokens.specs.Reading.{Line, asLine, one, Added, Stands, Follows, follows, stops, mostOpen, Joined, joinedEntries, ChainReads, LinkReads, joining, joinedKind}
 use Rattle.tokens.proofs.Entries.{added-on}
-use Rattle.tokens.proofs.Places.{here, inside, not-at, none-of, nor}
+use Rattle.tokens.proofs.Places.{here, not-at, none-of, nor}
 use Rattle.tokens.proofs.Answers.{Failed, not-failed}
 use Rattle.tokens.proofs.Following.{got-stands}
 
@@ -105,10 +105,10 @@ module _ {A : Type 0} {link whole : ℕ → Bytes → Result A → Type 0} {more
           let i = st .further in
           let own : Entries = one kind 0 (m - 1) (l - 1) in
           let both : written n (join x y) ≡ es ++ (fs ++ own) =
-              subst (λ (i : ℕ). written n (join x y) ≡ es ++ (fs ++ one kind 0 (m - 1) (i - 1))) (sym d)
-              (subst (λ (i : ℕ). written n (join x y) ≡ es ++ (written i y ++ one kind 0 (i - 1) (i + length (written i y) - 1))) (sym c) (chained .writes n x y)) in
+          subst (λ (i : ℕ). written n (join x y) ≡ es ++ (fs ++ one kind 0 (m - 1) (i - 1))) (sym d)
+          (subst (λ (i : ℕ). written n (join x y) ≡ es ++ (written i y ++ one kind 0 (i - 1) (i + length (written i y) - 1))) (sym c) (chained .writes n x y)) in
           let len : length (written n (join x y)) ≡ length es + (length fs + 1) =
-              ap length both ∙ length-append es (fs ++ own) ∙ ap (λ (j : ℕ). length es + j) (length-append fs own) in
+          ap length both ∙ length-append es (fs ++ own) ∙ ap (λ (j : ℕ). length es + j) (length-append fs own) in
           record {
             thing = join x y;
             goes-on = λ r w. going .goes-on r (subst (λ (b : Bytes). more k x b r) (sym joint) (chained .joins rd w));
@@ -118,6 +118,6 @@ module _ {A : Type 0} {link whole : ℕ → Bytes → Result A → Type 0} {more
               within = st .within;
               count = omega arith;
               few = omega arith;
-              table = subst (λ (gs : Entries). Added before n gs last) (sym both) (added-on (going .stands .table) c (added-on (st .table) d a))
-            }
+              table = subst (λ (gs : Entries). Added before n gs last) (sym both) (added-on (going .stands .table) c (added-on (st .table) d a));
+            };
           }

@@ -1,7 +1,7 @@
 -- Which chain, and which bracket, a test of its variant says. Assumes nothing.
 use Prim.Native.Nat.{ℕ}
 use mathlib.Core.Path.{_≡_, refl, sym, subst}
-use mathlib.Core.List.{List, [], _∷_}
+use mathlib.Core.List.{[], _∷_}
 use lib.ListN.{getD}
 use denote.Enum.Declared.{tagOf}
 use Rattle.reply.specs.Bytes.{Bytes}

@@ -1,22 +1,22 @@
 -- Brackets: what stands in one, with one more open, and the byte that closes it. Assumes nothing.
-use Prim.Native.Nat.{ℕ, suc, _+_, _-_, _*_, _≤_, _<_}
+use Prim.Native.Nat.{ℕ, suc, _+_, _≤_, _<_}
 use native.Mathlib.Omega.{arith}
 use native.Mathlib.Numerals.{add-one}
-use mathlib.Core.Path.{_≡_, refl, sym, ap, _∙_, subst}
-use mathlib.Core.List.{[], _∷_, _++_}
+use mathlib.Core.Path.{_≡_, sym, subst}
+use mathlib.Core.List.{[], _∷_}
 use mathlib.Core.Logic.{inl, inr}
 use lib.ListN.{length, getD, drop}
 use denote.Enum.Declared.{tagOf}
 use types.Run.{OneOf}
 use Rattle.reply.specs.Bytes.{Bytes}
 use Rattle.query.specs.Table.{Entries}
-use Rattle.reading.proofs.Rules.{Result, got, stopped, broken, deep, NotAt}
+use Rattle.reading.proofs.Rules.{Result, got, stopped, deep}
 use Rattle.tokens.specs.declared.answer.Parsed.{Parsed}
-use Rattle.tokens.specs.declared.answer.Parsed.the-variants.{Got, Broken, Deep}
+use Rattle.tokens.specs.declared.answer.Parsed.the-variants.{Deep}
 use Rattle.tokens.specs.declared.kind.Bracket.{Bracket}
 use Rattle.tokens.specs.declared.kind.Bracket.the-variants.{Square, Round, Curly}
 use Rattle.tokens.proofs.kind.Bracket as the-bracket
-use Rattle.tokens.specs.Reading.{paths, filters, insides, brackets, closingByte, asLine, mostOpen, StopsAt, broken-at, deep-at, Follows, follows, stops, Bracketed, closes, stays-open, inner-stops, too-deep, Closed, closed-by, open-at, passed-by}
+use Rattle.tokens.specs.Reading.{paths, filters, insides, brackets, closingByte, asLine, mostOpen, broken-at, deep-at, Follows, follows, stops, Bracketed, closes, stays-open, inner-stops, too-deep, Closed, closed-by, open-at, passed-by}
 use Rattle.tokens.proofs.Places.{begins, here, inside, not-at, none-of, nor}
 use Rattle.tokens.proofs.Following.{no-stop}
 
@@ -37,14 +37,14 @@ module _ {A : Type 0} (reads : ℕ → Bytes → Result A → Type 0) (written :
       let f = st .few in
       let i : to < length text = inside text to (omega arith) in
       let inner : reads (suc k) (drop (at + 1) text) (got x (close ∷ drop (to + 1) text)) =
-          subst (λ (b : Bytes). reads (suc k) (drop (at + 1) text) (got x b)) (here text to close e seen) (rw (add-one k) at rd) in
+      subst (λ (b : Bytes). reads (suc k) (drop (at + 1) text) (got x b)) (here text to close e seen) (rw (add-one k) at rd) in
       follows {to = to + 1} (opened (closes o inner)) (record {
         further = omega arith;
         some = st .some;
         within = omega arith;
         count = st .count;
         few = omega arith;
-        table = st .table
+        table = st .table;
       })
   bracket-read {k = k} o (follows {to = to} rd st) (open-at e) =
       stops broken-at (opened (stays-open o (rw (add-one k) at rd) (not-at (close ∷ []) text to (nor e none-of)))) (st .within)

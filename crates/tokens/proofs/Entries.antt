@@ -1,8 +1,7 @@
 -- Entries that are added to a table in turn. Assumes nothing.
 use Prim.Native.Nat.{ℕ, _+_, _*_}
 use native.Mathlib.Omega.{arith}
-use native.Mathlib.Nat.{add-assoc}
-use mathlib.Core.Path.{_≡_, refl, sym, ap, _∙_, subst}
+use mathlib.Core.Path.{_≡_, refl}
 use mathlib.Core.List.{[], _∷_, _++_, append-assoc}
 use lib.ListN.{length, take, length-append}
 use Rattle.reply.specs.Bytes.{Bytes, twoBytes}
@@ -20,5 +19,5 @@ pub added-on : {t u v : Bytes} {n m : ℕ} {es fs : Entries} → Added t n es u 
 added-on {t = t} {n = n} {m = m} {es = es} {fs = fs} a e b =
     let len : n + length (es ++ fs) ≡ m + length fs = omega (arith, length-append es fs) in
     record {
-      front = rw (len, b .front, e, a .front, bytes-of-both) (append-assoc (take (6 * n) t) (entryBytes es) (entryBytes fs))
+      front = rw (len, b .front, e, a .front, bytes-of-both) (append-assoc (take (6 * n) t) (entryBytes es) (entryBytes fs));
     }

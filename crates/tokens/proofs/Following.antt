@@ -2,14 +2,14 @@
 use Prim.Native.Nat.{ℕ, _+_, _-_, _*_, _≤_, _<_}
 use native.Mathlib.Omega.{arith}
 use mathlib.Core.Path.{_≡_, refl, sym, ap, _∙_, subst}
-use mathlib.Core.List.{[], _∷_, _++_}
+use mathlib.Core.List.{_++_}
 use lib.ListN.{length, drop, length-append}
 use Rattle.reply.specs.Bytes.{Bytes}
 use Rattle.query.specs.Table.{Entries}
-use Rattle.reading.proofs.Rules.{Stop, Result, got, stopped}
+use Rattle.reading.proofs.Rules.{Stop, got, stopped}
 use Rattle.tokens.specs.declared.answer.Parsed.{Parsed}
-use Rattle.tokens.specs.declared.answer.Parsed.the-variants.{Got, Broken, Deep}
-use Rattle.tokens.specs.Reading.{Line, asLine, one, Added, Stands, StopsAt, broken-at, deep-at, Follows, follows, stops, Ready, placeOf, RoomBehind, Behind, behind, passed-on}
+use Rattle.tokens.specs.declared.answer.Parsed.the-variants.{Got}
+use Rattle.tokens.specs.Reading.{Line, one, Added, Stands, StopsAt, broken-at, deep-at, Follows, follows, stops, Ready, placeOf, RoomBehind, Behind, behind, passed-on}
 use Rattle.tokens.proofs.Entries.{added-on}
 
 -- what was read is no stop
@@ -52,7 +52,7 @@ module _ {line : Line} {k : ℕ} {text : Bytes} {at : ℕ} {before after : Bytes
         within = i;
         count = omega arith;
         few = omega arith;
-        table = subst (λ (es : Entries). Added before n es after) (sym w) (e .1)
+        table = subst (λ (es : Entries). Added before n es after) (sym w) (e .1);
       }))
 
   -- behind what was read from `from`, at or behind `at`, there is room for one more entry
@@ -88,7 +88,7 @@ module _ {line outer : Line} (wrap : line .Thing → outer .Thing) {k j : ℕ} {
         within = st .within;
         count = omega arith;
         few = omega arith;
-        table = subst (λ (es : Entries). Added before n es mid) (sym (writes x)) (st .table)
+        table = subst (λ (es : Entries). Added before n es mid) (sym (writes x)) (st .table);
       })
   turned writes s (stops st rd w) = stops st (turns .halts rd) w
 
@@ -111,7 +111,7 @@ module _ {line outer : Line} (wrap : line .Thing → outer .Thing) {k j : ℕ} {
         within = st .within;
         count = omega arith;
         few = omega arith;
-        table = subst (λ (fs : Entries). Added before n fs after) (sym (writes x)) (added-on (st .table) b last)
+        table = subst (λ (fs : Entries). Added before n fs after) (sym (writes x)) (added-on (st .table) b last);
       })
   wrapped writes s (follows rd st) (passed-on no-such) = absurd (no-stop no-such)
   wrapped writes s (stops no-such rd w) (behind b) = absurd (no-stop no-such)

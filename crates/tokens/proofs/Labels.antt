@@ -8,7 +8,7 @@ use lib.ListN.{length, getD, drop}
 use denote.Enum.Declared.{tagOf}
 use types.Run.{OneOf}
 use Rattle.reply.specs.Bytes.{Bytes}
-use Rattle.reading.proofs.Rules.{broken, Result, got, stopped, NoSecond, NoDigit, LabelReads, one-digit, two-digits, no-digit}
+use Rattle.reading.proofs.Rules.{got, NoSecond, NoDigit, LabelReads, one-digit, two-digits, no-digit}
 use Rattle.reading.proofs.Rules as rules
 use Rattle.tokens.specs.Label.{DigitOf, digit, too-low, too-high, LabelAt, number, nothing}
 use Rattle.tokens.specs.declared.label.Label.{Label}
@@ -75,7 +75,7 @@ module _ (text : Bytes) (at : ℕ) where
         let second : drop (at + 1) text ≡ (48 + e) ∷ drop (at + 1 + 1) text = here text (at + 1) (48 + e) c (omega arith) in
         let next : at + 1 + 1 ≡ at + 2 = omega arith in
         let both : drop at text ≡ (48 + d) ∷ (48 + e) ∷ drop (at + 2) text =
-            first ∙ ap (λ (b : Bytes). (48 + d) ∷ b) (second ∙ ap (λ (k : ℕ). (48 + e) ∷ drop k text) next) in
+        first ∙ ap (λ (b : Bytes). (48 + d) ∷ b) (second ∙ ap (λ (k : ℕ). (48 + e) ∷ drop k text) next) in
         let j : at + 1 < length text = inside text (at + 1) (omega arith) in
         number {to = at + 2} (subst (λ (b : Bytes). LabelReads b (got (10 * d + e) (drop (at + 2) text))) (sym both) (two-digits (omega arith) (omega arith) z)) (omega arith) (omega arith)
 

@@ -1,10 +1,10 @@
 -- Six stores in a row write an entry. Assumes nothing.
-use Prim.Native.Nat.{ℕ, suc, _+_, _*_, _/_, _%_, _≤_}
+use Prim.Native.Nat.{ℕ, _+_, _*_, _/_, _%_, _≤_}
 use native.Mathlib.Omega.{arith}
 use native.Mathlib.Numerals.{towards-suc}
 use mathlib.Core.Path.{_≡_, refl, ap, _∙_}
-use mathlib.Core.List.{List, [], _∷_, _++_, append-assoc}
-use lib.ListN.{length, take, drop, set, length-append, length-take}
+use mathlib.Core.List.{[], _∷_, _++_}
+use lib.ListN.{length, take, drop, set, length-append}
 use lib.Seq.{sets, sets-eq, take-at, length-take-le}
 use Rattle.reply.specs.Bytes.{Bytes, twoBytes}
 use Rattle.query.specs.Table.{entryBytes}
@@ -20,7 +20,7 @@ run t i vs h =
 -- the bytes of an entry, stored one by one behind n entries
 pub stored : (t : Bytes) (n kind label left right : ℕ) → 6 * (n + 1) ≤ length t
     → Added t n (one kind label left right)
-        (set (set (set (set (set (set t (6 * n) kind) (6 * n + 1) label) (6 * n + 2) (left % 256)) (6 * n + 3) (left / 256 % 256)) (6 * n + 4) (right % 256)) (6 * n + 5) (right / 256 % 256))
+    (set (set (set (set (set (set t (6 * n) kind) (6 * n + 1) label) (6 * n + 2) (left % 256)) (6 * n + 3) (left / 256 % 256)) (6 * n + 4) (right % 256)) (6 * n + 5) (right / 256 % 256))
 unfolding entryBytes twoBytes
 stored t n kind label left right h =
     let end : 6 * (n + 1) ≡ 6 * n + 6 = omega arith in

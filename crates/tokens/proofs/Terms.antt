@@ -1,14 +1,14 @@
 -- Terms: by the byte at the place, one of the five, or a path. Assumes nothing.
-use Prim.Native.Nat.{ℕ, _+_, _-_, _*_, _≤_, _<_}
+use Prim.Native.Nat.{ℕ, _+_, _<_}
 use native.Mathlib.Omega.{arith}
 use native.Mathlib.Nat.{le-refl, le-add-right}
-use mathlib.Core.Path.{_≡_, refl, sym, ap, _∙_, subst}
-use mathlib.Core.List.{[], _∷_, _++_, List·Memᴰ}
+use mathlib.Core.Path.{_≡_, refl, sym, subst}
+use mathlib.Core.List.{_∷_, List·Memᴰ}
 use lib.ListN.{length, getD, drop}
 use Rattle.reply.specs.Bytes.{Bytes}
 use Rattle.query.specs.Syntax.{Filter, labelled, leads, always, never, not}
 use Rattle.text.specs.Written.{filterEntries}
-use Rattle.reading.proofs.Rules.{Stop, Result, got, stopped, NotAt, termBytes, TermReads, FilterReads}
+use Rattle.reading.proofs.Rules.{Stop, got, stopped, NotAt, termBytes, TermReads, FilterReads}
 use Rattle.reading.proofs.Rules as rules
 use Rattle.tokens.specs.declared.answer.Parsed.{Parsed}
 use Rattle.tokens.specs.declared.answer.Parsed.the-variants.{Got}

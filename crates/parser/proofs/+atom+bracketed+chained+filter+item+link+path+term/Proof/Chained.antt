@@ -33,13 +33,13 @@ module _ (t : ℕ) where
   -- the first link is read
   first-going : (c : lts.After-known-told (claims t) (chained-at t) chained.Post Inv-loop μ-loop)
       → Going (chains (c .before .before .before .before .before .before .before .before .before .args .chain)) (GoesOn (c .before .before .before .before .before .before .before .before .before .args .chain) (c .before .before .before .before .before .before .before .before .before .args .depth)) (c .before .before .before .before .before .before .before .before .before .args .depth) (c .before .before .before .before .before .before .before .before .before .args .text .now) (c .before .before .before .before .before .before .before .before .before .args .at) (c .before .before .before .before .before .before .before .before .before .args .table .now) (c .before .before .before .before .before .before .before .before .before .args .count)
-          (c .before .first .given .0 .0) (c .before .first .given .0 .1 .0) (c .before .before .before .before .before .link .last .1 .1 .1 .0)
+      (c .before .first .given .0 .0) (c .before .first .given .0 .1 .0) (c .before .before .before .before .before .link .last .1 .1 .1 .0)
   first-going c = started (chaining (c .before .before .before .before .before .before .before .before .before .args .chain)) (joinedSpare (c .before .before .before .before .before .before .before .before .before .args .chain)) (c .before .first .given .1) (c .before .before .before .before .before .link .ensures)
 
   -- at the loop's head a chain is read, and what follows may add to it
   going : (c : lts.At-loop (claims t) (chained-at t) chained.Post Inv-loop μ-loop)
       → Going (chains (c .before .before .before .before .before .before .before .before .before .before .args .chain)) (GoesOn (c .before .before .before .before .before .before .before .before .before .before .args .chain) (c .before .before .before .before .before .before .before .before .before .before .args .depth)) (c .before .before .before .before .before .before .before .before .before .before .args .depth) (c .before .before .before .before .before .before .before .before .before .before .args .text .now) (c .before .before .before .before .before .before .before .before .before .before .args .at) (c .before .before .before .before .before .before .before .before .before .before .args .table .now) (c .before .before .before .before .before .before .before .before .before .before .args .count)
-          (c .loop .next) (c .loop .written) (c .loop .table)
+      (c .loop .next) (c .loop .written) (c .loop .table)
   going c = c .loop .inv .1 (c .before .before .before .before .before .before .before .before .before .before .args .table .now) (first-going (c .before))
 
   -- the joining byte is the next
@@ -92,7 +92,7 @@ module _ (t : ℕ) where
   add-link c = omega (arith, in-text c, c .before .before .before .before .before .before .before .before .before .before .before .before .before .good .0)
 
   pub link-requires-2 : lts.Need-link-requires-2 (claims t) (chained-at t) chained.Post Inv-loop μ-loop
-  link-requires-2 c κs = 
+  link-requires-2 c κs =
       let l = in-text (c .before) in
       let g = going (c .before .before .before .before) .stands in
       let f = g .further in
@@ -127,9 +127,10 @@ module _ (t : ℕ) where
   loop-less c = omega (arith, one-more (c .before .before .before .before .before .before) .0, one-more (c .before .before .before .before .before .before) .1)
 
   pub loop-again : lts.Need-loop-again (claims t) (chained-at t) chained.Post Inv-loop μ-loop
-  loop-again c = 
-      (c .before .before .put .kept .0 ∙ c .before .before .before .before .before .before .before .before .before .before .link2 .kept .1 .1 .1 .0 ∙ c .before .before .before .before .before .before .before .before .before .before .before .before .before .before .before .loop .inv .0,
-        λ before g. turned (chaining (c .before .before .before .before .before .before .before .before .before .before .before .before .before .before .before .before .before .before .before .before .before .before .before .before .before .args .chain)) (joinedSpare (c .before .before .before .before .before .before .before .before .before .before .before .before .before .before .before .before .before .before .before .before .before .before .before .before .before .args .chain)) (c .before .before .before .before .before .before .before .before .before .before .before .before .before .before .before .loop .inv .1 before g) (joint-next (c .before .before .before .before .before .before .before .before .before .before .before .before)) (c .before .before .before .before .before .before .more .given .1) (c .before .before .before .before .before .before .before .before .before .before .link2 .ensures) (c .before .before .before .kind-of .ensures) (c .before .before .put .ensures))
+  loop-again c = (
+    c .before .before .put .kept .0 ∙ c .before .before .before .before .before .before .before .before .before .before .link2 .kept .1 .1 .1 .0 ∙ c .before .before .before .before .before .before .before .before .before .before .before .before .before .before .before .loop .inv .0,
+    λ before g. turned (chaining (c .before .before .before .before .before .before .before .before .before .before .before .before .before .before .before .before .before .before .before .before .before .before .before .before .before .args .chain)) (joinedSpare (c .before .before .before .before .before .before .before .before .before .before .before .before .before .before .before .before .before .before .before .before .before .before .before .before .before .args .chain)) (c .before .before .before .before .before .before .before .before .before .before .before .before .before .before .before .loop .inv .1 before g) (joint-next (c .before .before .before .before .before .before .before .before .before .before .before .before)) (c .before .before .before .before .before .before .more .given .1) (c .before .before .before .before .before .before .before .before .before .before .link2 .ensures) (c .before .before .before .kind-of .ensures) (c .before .before .put .ensures),
+  )
 
   pub same-length-3 : lts.Need-same-length-3 (claims t) (chained-at t) chained.Post Inv-loop μ-loop
   same-length-3 c = kept-length (c .before .before .before)

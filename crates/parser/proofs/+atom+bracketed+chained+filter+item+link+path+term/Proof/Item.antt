@@ -32,7 +32,7 @@ module _ (t : ℕ) where
   -- the atom is read
   atom-going : (c : lts.After-known-told (claims t) (item-at t) item.Post Inv-loop μ-loop)
       → Going items StarsRead (c .before .before .before .before .before .before .before .before .before .args .depth) (c .before .before .before .before .before .before .before .before .before .args .text .now) (c .before .before .before .before .before .before .before .before .before .args .at) (c .before .before .before .before .before .before .before .before .before .args .table .now) (c .before .before .before .before .before .before .before .before .before .args .count)
-          (c .before .first .given .0 .0) (c .before .first .given .0 .1 .0) (c .before .before .before .before .before .atom .last .1 .1 .1 .0)
+      (c .before .first .given .0 .0) (c .before .first .given .0 .1 .0) (c .before .before .before .before .before .atom .last .1 .1 .1 .0)
   atom-going c = atom-read (c .before .first .given .1) (c .before .before .before .before .before .atom .ensures)
 
   -- at the loop's head an atom with some stars is read
