@@ -1,12 +1,12 @@
 -- Annotation records: their fields stand where those of a query entry do, and which tests decide whether a record is right. Assumes nothing.
 use Prim.Native.Nat.{ℕ, zero, suc, _-_, _≤_, _<_}
 use native.Mathlib.Omega.{arith}
-use mathlib.Core.Path.{_≡_, refl, sym, ap, _∙_, subst}
+use mathlib.Core.Path.{_≡_, refl, sym, _∙_}
 use mathlib.Core.Bool.{Bool, _&&_, _||_}
 use mathlib.Core.List.{[], _∷_, map}
 use mathlib.Core.Option.{none, some}
 use lib.Dec.{eqb, ltb}
-use lib.ListN.{length, getD, length-map, List·getD-map, List·getD-eq-default}
+use lib.ListN.{length, length-map, List·getD-map, List·getD-eq-default}
 use Rattle.reply.specs.Bytes.{Bytes}
 use Rattle.tree.specs.Tree.{Label}
 use Rattle.tree.proofs.Tests.{Decides, less-test, equal-test, and-test, or-test, same-test}
@@ -22,6 +22,7 @@ use Rattle.checks.specs.Fields.{Fields}
 abbrev recordOf : Entry → AnnotationRecord
 recordOf e = record { parent = e .kind; child = e .label; filter = e .left; rest = e .right }
 
+-- records are read as entries are
 records-entries : (b : Bytes) → records b ≡ map recordOf (entries b)
 unfolding records entries
 records-entries [] = refl
@@ -42,20 +43,26 @@ module _ (b : Bytes) where
   unfolding recordAt entryAt
   record-entry i = rw (records-entries b) (List·getD-map recordOf (entries b) i _)
 
+-- behind a table's last entry there is no row
+no-row : (es : Entries) (i : ℕ) → length es ≤ i → rowAt es i ≡ none
+unfolding rowAt entryAt kinds find
+no-row es i l = rw (List·getD-eq-default es (record { kind = 0; label = 0; left = 0; right = 0 }) l)
+
 -- what has a sort is an entry of the table
 sorted-named : {es : Entries} {i : ℕ} {s : Sort} → HasSort es i s → i < length es
-unfolding rowAt entryAt kinds find
-sorted-named {es} {i} h =
-    let behind : ¬ (length es ≤ i) = λ l.
-    let e : none ≡ some (h .row) = rw (List·getD-eq-default es (record { kind = 0; label = 0; left = 0; right = 0 }) l) at (h .listed) in
-    let z : _≡_ {A = ℕ} 0 1 = cc in
-    omega arith in
-    omega arith
+sorted-named {es} {i} h = let inside : ¬ (length es ≤ i) = behind in omega arith
+  where
+    behind : ¬ (length es ≤ i)
+    behind l =
+        let e : none ≡ some (h .row) = sym (no-row es i l) ∙ h .listed in
+        let z : _≡_ {A = ℕ} 0 1 = cc in
+        omega arith
 
--- the record that was read
+-- the record that a struct was read from
 abbrev given : Record → AnnotationRecord
 given r = record { parent = r .parent; child = r .child; filter = r .filter; rest = r .rest }
 
+-- it is the one record with those fields
 was-read : {g : AnnotationRecord} {r : Record} → Fields g r → g ≡ given r
 was-read f = λ i. record { parent = sym (f .parent) i; child = sym (f .child) i; filter = sym (f .filter) i; rest = sym (f .rest) i }
 

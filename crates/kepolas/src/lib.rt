@@ -1,4 +1,5 @@
 // The calls for C and Rust. A reply is told in three words that the caller lends: 0 and the count, or 1, the refusal's number and its place.
+use reader::read_text;
 use reply::Reply;
 use reply::number_of;
 use roll::check_roll;
@@ -6,6 +7,7 @@ use roll::run_of;
 ghost use mathlib.Core.Path.{_≡_};
 ghost use Rattle.reply.specs.Reply.{said};
 ghost use Rattle.roll.specs.Promise.{RollChecked};
+ghost use Rattle.text.specs.Promise.{TextRead};
 ghost use Rattle.kepolas.specs.Told.{inFront, told, Tells, PartTold};
 
 // Writes three words in front of `out`, or nothing where it is too short.
@@ -39,6 +41,15 @@ pub extern "C" fn kepolas_check_roll(roll: &[u8], reply: &mut [u64])
     ensures { λ _. ⌜ Tells (RollChecked (now (roll .entry))) (now (reply .entry)) (now (reply .exit)) ⌝ }
 {
     let answer = check_roll(roll);
+    tell(answer, reply);
+}
+
+// Call 2.
+#[no_mangle]
+pub extern "C" fn kepolas_read_text(text: &[u8], room: &mut [u8], reply: &mut [u64])
+    ensures { λ _. ⌜ Tells (λ s. TextRead (now (text .entry)) (now (room .entry)) s (now (room .exit))) (now (reply .entry)) (now (reply .exit)) ⌝ }
+{
+    let answer = read_text(text, room);
     tell(answer, reply);
 }
 

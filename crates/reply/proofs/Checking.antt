@@ -6,7 +6,7 @@ use Rattle.reply.specs.declared.Refusal.{Refusal}
 use Rattle.reply.specs.declared.Reply.{Reply}
 use Rattle.reply.specs.declared.Reply.the-variants.{Count, Refused}
 use Rattle.reply.specs.Reply.{Said, count, refused, said}
-use Rattle.reply.specs.Outcome.{Lowest, InTurn, first, behind, done, short, turned-away, Checked}
+use Rattle.reply.specs.Outcome.{Lowest, done, short, turned-away, Checked}
 
 module _ {Right : Type 0} {Fault : ℕ → ℕ → Type 0} {size : ℕ} where
   -- a right input is counted

@@ -1,6 +1,8 @@
-// A reply carries either a count or a refusal's number with its place.
+// A reply carries either a count or a refusal's number with its place. And bytes as numbers, which every record is made of.
 // Which number a reason has is said in specs/Reply.antt.
 ghost use mathlib.Core.Path.{_≡_};
+ghost use Prim.Native.Nat.{_<_};
+ghost use Rattle.reply.specs.Bytes.{two};
 ghost use Rattle.reply.specs.Reply.{number, refused, said};
 
 // Why a call refuses: one case for each row of the list of refusals.
@@ -64,4 +66,18 @@ pub fn number_of(reason: Reason) -> u64
         Reason::TableTooLarge => 16,
         Reason::FileUnreadable => 17,
     }
+}
+
+// A byte as a number.
+pub fn wide(x: u8) -> usize
+    ensures { λ r. ⌜ (r ≡ x) × (r < 256) ⌝ }
+{
+    x as usize
+}
+
+// "All two-byte numbers have the low byte first."
+pub fn two_bytes(low: u8, high: u8) -> usize
+    ensures { λ r. ⌜ r ≡ two low high ⌝ }
+{
+    wide(low) + 256 * wide(high)
 }

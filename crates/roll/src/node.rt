@@ -1,23 +1,10 @@
 // Node records, read from the bytes of a table.
+use reply::two_bytes;
+use reply::wide;
 ghost use mathlib.Core.Path.{_≡_};
 ghost use lib.ListN.{length};
-ghost use Rattle.reply.specs.Bytes.{two};
 ghost use Rattle.tree.specs.Tree.{labelAt, parentAt};
 ghost use Rattle.roll.specs.Roll.{nodes};
-
-// A byte as a number.
-fn wide(x: u8) -> usize
-    ensures { λ r. ⌜ r ≡ x ⌝ }
-{
-    x as usize
-}
-
-// A two-byte number, low byte first.
-fn two_bytes(low: u8, high: u8) -> usize
-    ensures { λ r. ⌜ r ≡ two low high ⌝ }
-{
-    wide(low) + 256 * wide(high)
-}
 
 // The number of whole records.
 pub fn count(roll: &[u8]) -> usize

@@ -4,14 +4,15 @@ use crate::node::count;
 use crate::node::label_at;
 use crate::node::parent_at;
 use reply::Reason;
-use reply::Refusal;
 use reply::Reply;
+use reply::refuse;
+use tree::is_label;
 ghost use mathlib.Core.Path.{_≡_};
 ghost use mathlib.Core.Logic.{_↔_};
 ghost use Prim.Native.Nat.{ℕ, _<_};
 ghost use lib.Dec.{T};
 ghost use lib.ListN.{length};
-ghost use Rattle.reply.specs.Reply.{number, refused, said};
+ghost use Rattle.reply.specs.Reply.{said};
 ghost use Rattle.reply.specs.Outcome.{Lowest, Checked};
 ghost use Rattle.tree.specs.Tree.{Label, labelAt};
 ghost use Rattle.roll.specs.Roll.{nodes, secondByte, ParentRule, NodeRight, NodeFault, RollLength};
@@ -21,12 +22,6 @@ ghost use Rattle.roll.specs.Promise.{RollChecked};
 const NONE: usize = 65535;
 // The bytes of 4,096 nodes.
 const LONGEST: usize = 4 * 4096;
-
-fn refuse(reason: Reason, place: usize) -> Reply
-    ensures { λ r. ⌜ said r ≡ refused (number reason) place ⌝ }
-{
-    Reply::Refused(Refusal { reason, place })
-}
 
 fn length_fits(roll: &[u8]) -> bool
     ensures { λ r. ⌜ T r ↔ RollLength (now (roll .entry)) ⌝ }
@@ -43,8 +38,7 @@ fn length_fits(roll: &[u8]) -> bool
 fn label_fits(roll: &[u8], i: usize) -> bool
     ensures { λ r. ⌜ T r ↔ Label (labelAt (nodes (now (roll .entry))) i) ⌝ }
 {
-    let label = label_at(roll, i);
-    1 <= label && label <= 64
+    is_label(label_at(roll, i))
 }
 
 fn second_fits(roll: &[u8], i: usize) -> bool

@@ -2,9 +2,10 @@
 use Prim.Native.Nat.{ℕ, _*_, _%_, _≤_}
 use native.Mathlib.Omega.{arith}
 use mathlib.Core.Path.{_≡_, refl, sym, ap, _∙_, subst, subst₂}
+use mathlib.Core.Logic.{_↔_}
 use mathlib.Core.Bool.{Bool, true, false, not, _&&_}
 use mathlib.Core.Option.{Option, none, some}
-use lib.Dec.{leb, ltb, eqb, leb→le, le→leb}
+use lib.Dec.{T, leb, ltb, eqb, leb→le, le→leb}
 use lib.ListN.{length}
 use Rattle.reply.specs.Bytes.{Bytes, Whole}
 use Rattle.tree.specs.Tree.{Label}
@@ -33,10 +34,9 @@ length-test limit b test =
     same-test (and-test (less-test 0 (length b)) test) (λ p. record { some = p .0; size = p .1 }, λ (h : QueryLength limit b). (h .some, h .size))
 
 -- a label that is used is one of 1 to 64
-pub label-used : (l : ℕ) → Decides (leb 1 l && leb l 64) (LabelField true l)
+pub label-used : {b : Bool} (l : ℕ) → T b ↔ Label l → Decides b (LabelField true l)
 unfolding LabelField
-label-used l =
-    same-test (and-test (at-most-test 1 l) (at-most-test l 64)) (λ p. record { least = p .0; most = p .1 }, λ (h : Label l). (h .least, h .most))
+label-used l test = record { exact = test }
 
 -- a label that is not used is 0
 pub label-unused : (l : ℕ) → Decides (eqb l 0) (LabelField false l)

@@ -7,6 +7,8 @@ ghost use Rattle.query.specs.Table.{entries, entryAt, rowAt};
 ghost use Rattle.tables.specs.Shape.{sortOf};
 ghost use Rattle.tables.specs.Fields.{Fields};
 use crate::kinds::sort_of;
+use reply::two_bytes;
+use reply::wide;
 
 pub struct Entry {
     pub kind: usize,
@@ -15,19 +17,12 @@ pub struct Entry {
     pub right: usize,
 }
 
-// A byte as a number.
-fn wide(x: u8) -> usize
-    ensures { λ r. ⌜ (r ≡ x) × (r < 256) ⌝ }
-{
-    x as usize
-}
-
 // The two-byte number at a place, low byte first.
-fn two_bytes(table: &[u8], at: usize) -> usize
+fn number_at(table: &[u8], at: usize) -> usize
     requires { ⌜ at + 1 < length (now table) ⌝ }
     ensures { λ r. ⌜ r ≡ two (getD (now (table .entry)) at 0) (getD (now (table .entry)) (at + 1) 0) ⌝ }
 {
-    wide(table[at]) + 256 * wide(table[at + 1])
+    two_bytes(table[at], table[at + 1])
 }
 
 // How many entries a table has.
@@ -53,8 +48,8 @@ pub fn entry_at(table: &[u8], i: usize) -> Entry
     Entry {
         kind: wide(table[at]),
         label: wide(table[at + 1]),
-        left: two_bytes(table, at + 2),
-        right: two_bytes(table, at + 4),
+        left: number_at(table, at + 2),
+        right: number_at(table, at + 4),
     }
 }
 

@@ -9,16 +9,13 @@ use crate::kinds::left_of;
 use crate::kinds::right_of;
 use crate::kinds::sort_of;
 use crate::kinds::uses_label;
+use tree::is_label;
 
 // "label is the given one (1 to 64)", and "unused fields are zero".
 fn label_right(used: bool, label: usize) -> bool
     ensures { λ r. ⌜ Decides r (LabelField used label) ⌝ }
 {
-    if used {
-        (1 <= label) & (label <= 64)
-    } else {
-        label == 0
-    }
+    if used { is_label(label) } else { label == 0 }
 }
 
 // "Operands are numbers of earlier entries", and "unused fields are zero".

@@ -31,7 +31,7 @@ wide-requires c κs = search needs
 returns-2 : tie.Need-returns-2
 returns-2 c =
     let a = c .before .before .before .before .before .args in
-    c .wide .ensures ∙ sym (label-byte (now (a .roll)) (a .i) (omega arith))
+    c .wide .ensures .0 ∙ sym (label-byte (now (a .roll)) (a .i) (omega arith))
 
 pub label-at-spec : {M : Type 1} → statement M
 label-at-spec = tie.close (tie.spec count-requires returns mul-wide shared-slice-read-wide wide-requires returns-2)

@@ -3,11 +3,10 @@
 use mathlib.Core.Path.{_≡_, refl}
 use borrow.Author.Needs.{needs}
 use denote.Ref.{now}
-use Rattle.reply.proofs.Checking.{passes}
+use Rattle.reply.proofs.Checking.{passes, lowest-refused}
 use Rattle.tree.specs.Tree.{Label, labelAt}
 use Rattle.tree.proofs.Tests.{test-failed, test-passed}
 use Rattle.roll.specs.Roll.{nodes, secondByte, label, second, parent}
-use Rattle.roll.proofs.Checking.{node-refused}
 use Rattle.roll.proofs.scan.check_node.Statement.{statement}
 use Rattle.roll.proofs.scan.check_node.Tie as tie
 
@@ -28,7 +27,7 @@ returns c =
     let tests = c .before .before in
     let s = tests .before .before .before .before in
     let test = tests .before .before .label-fits in
-    node-refused (now (s .args .roll)) (s .pre .0) (s .pre .1) (c .refuse .ensures) (label (test-failed (test .result) (test .ensures) (c .before .if1 .taken)))
+    lowest-refused (s .pre .0) (s .pre .1) (label (test-failed (test .result) (test .ensures) (c .before .if1 .taken))) (c .refuse .ensures)
 
 refuse-requires-2 : tie.Need-refuse-requires-2
 refuse-requires-2 c κs = search needs
@@ -43,8 +42,8 @@ returns-2 c =
     let tests = past .before in
     let s = tests .before .before .before .before in
     let test = tests .before .second-fits in
-    node-refused (now (s .args .roll)) (s .pre .0) (s .pre .1) (c .refuse2 .ensures)
-    (second (labelled past) (test-failed (test .result) (test .ensures) (c .before .if2 .taken)))
+    lowest-refused (s .pre .0) (s .pre .1) (second (labelled past) (test-failed (test .result) (test .ensures) (c .before .if2 .taken)))
+    (c .refuse2 .ensures)
 
 refuse-requires-3 : tie.Need-refuse-requires-3
 refuse-requires-3 c κs = search needs
@@ -59,8 +58,8 @@ returns-3 c =
     let tests = past .before .before in
     let s = tests .before .before .before .before in
     let test = tests .parent-fits in
-    node-refused (now (s .args .roll)) (s .pre .0) (s .pre .1) (c .refuse3 .ensures)
-    (parent (labelled (past .before)) (zeroed past) (test-failed (test .result) (test .ensures) (c .before .if3 .taken)))
+    lowest-refused (s .pre .0) (s .pre .1)
+    (parent (labelled (past .before)) (zeroed past) (test-failed (test .result) (test .ensures) (c .before .if3 .taken))) (c .refuse3 .ensures)
 
 returns-4 : tie.Need-returns-4
 returns-4 c =

@@ -5,9 +5,11 @@ use native.Mathlib.Omega.{arith}
 use borrow.Author.Count.{below-more}
 use borrow.Author.Needs.{needs}
 use denote.Ref.{now}
+use Rattle.reply.proofs.Checking.{right-of, passed-up}
 use Rattle.tree.proofs.Tests.{test-failed, test-passed}
-use Rattle.roll.specs.Roll.{NodeRight, RollLength}
-use Rattle.roll.proofs.Checking.{node-right, length-refused, refused-up, roll-counted}
+use Rattle.roll.specs.Roll.{NodeRight, RollLength, bad-node}
+use Rattle.roll.specs.Promise.{RollChecked}
+use Rattle.roll.proofs.Checking.{length-refused, roll-counted}
 use Rattle.roll.proofs.scan.check_roll.Statement.{statement}
 use Rattle.roll.proofs.scan.check_roll.Tie as tie
 
@@ -49,10 +51,10 @@ enum-told-2 : tie.Need-enum-told-2 Inv-loop μ-loop
 enum-told-2 c = search needs
 
 returns-2 : tie.Need-returns-2 Inv-loop μ-loop
+unfolding RollChecked
 returns-2 c =
     let checked = c .before .before in
-    let b = now (checked .before .before .before .before .before .before .before .args .roll) in
-    refused-up b (size (checked .before .before .before .before)) (c .enum-told2 .given .1) (checked .check-node .ensures)
+    passed-up (λ n p. bad-node (size (checked .before .before .before .before))) (c .enum-told2 .given .1) (checked .check-node .ensures)
 
 add-i : tie.Need-add-i Inv-loop μ-loop
 add-i c = omega arith
@@ -63,8 +65,7 @@ loop-less c = omega arith
 loop-again : tie.Need-loop-again Inv-loop μ-loop
 loop-again c =
     let checked = c .before .before in
-    let b = now (checked .before .before .before .before .before .before .before .args .roll) in
-    (omega arith, below-more _ _ (checked .before .before .loop .inv .1) (node-right b (c .enum-told .given .1) (checked .check-node .ensures)))
+    (omega arith, below-more _ _ (checked .before .before .loop .inv .1) (right-of (c .enum-told .given .1) (checked .check-node .ensures)))
 
 returns-3 : tie.Need-returns-3 Inv-loop μ-loop
 returns-3 c =

@@ -25,23 +25,23 @@ shared-slice-read-wide-2 c = search needs
 wide-requires-2 : tie.Need-wide-requires-2
 wide-requires-2 c κs = search needs
 
-add-two-bytes : tie.Need-add-two-bytes
-add-two-bytes c = search needs
+add-number-at : tie.Need-add-number-at
+add-number-at c = search needs
 
-two-bytes-requires : tie.Need-two-bytes-requires
-two-bytes-requires c κs = search needs
+number-at-requires : tie.Need-number-at-requires
+number-at-requires c κs = search needs
 
-add-two-bytes-2 : tie.Need-add-two-bytes-2
-add-two-bytes-2 c = search needs
+add-number-at-2 : tie.Need-add-number-at-2
+add-number-at-2 c = search needs
 
-two-bytes-requires-2 : tie.Need-two-bytes-requires-2
-two-bytes-requires-2 c κs = search needs
+number-at-requires-2 : tie.Need-number-at-requires-2
+number-at-requires-2 c κs = search needs
 
 returns-2 : tie.Need-returns-2
 returns-2 c =
     let a = c .before .before .before .before .before .before .before .before .args in
     fields-read (a .table .now) (a .i) _ (search needs) (c .before .before .before .before .wide .ensures .0) (c .before .before .wide2 .ensures .0)
-    (c .before .two-bytes .ensures) (c .two-bytes2 .ensures)
+    (c .before .number-at .ensures) (c .number-at2 .ensures)
 
 pub entry-at-spec : {M : Type 1} → statement M
 entry-at-spec =
@@ -54,8 +54,8 @@ entry-at-spec =
     add-wide
     shared-slice-read-wide-2
     wide-requires-2
-    add-two-bytes
-    two-bytes-requires
-    add-two-bytes-2
-    two-bytes-requires-2
+    add-number-at
+    number-at-requires
+    add-number-at-2
+    number-at-requires-2
     returns-2)
