@@ -49,18 +49,20 @@ module _ {before es : Entries} where
   unfolding OperandField
   operand o = (omega (arith, length-append before es, o .some), o .last)
 
--- nothing behind other entries is in order
+-- no entries are in order
 none-right : {before : Entries} → AllRight before []
 none-right = record { each = λ i l h. absurd (omega arith) }
 
 -- An entry of a kind with a row, without operands, behind one operand, and behind two.
 module _ (before : Entries) (kind : ℕ) {row : Row} (listed : rowOf kind ≡ some row) where
+  -- without operands
   alone : {label : ℕ} → row .left ≡ unused → row .right ≡ unused → LabelField (row .label) label → Ordered before (record { kind = kind; label = label; left = 0; right = 0 } ∷ []) (row .sort)
   unfolding OperandField
   alone {label = label} l r used =
       closed (record { kind = kind; label = label; left = 0; right = 0 }) row listed none-right used
       (subst (λ (o : Operand). OperandField (before ++ []) (length (before ++ [])) o 0) (sym l) refl) (subst (λ (o : Operand). OperandField (before ++ []) (length (before ++ [])) o 0) (sym r) refl)
 
+  -- behind one
   behind-one : {s : Sort} {es : Entries} → row .left ≡ of s → row .right ≡ unused → row .label ≡ false → Ordered before es s
       → Ordered before (es ++ record { kind = kind; label = 0; left = length before + length es - 1; right = 0 } ∷ []) (row .sort)
   unfolding OperandField LabelField
@@ -69,6 +71,7 @@ module _ (before : Entries) (kind : ℕ) {row : Row} (listed : rowOf kind ≡ so
       (subst (λ (d : Operand). OperandField (before ++ es) (length (before ++ es)) d (length before + length es - 1)) (sym l) (operand o))
       (subst (λ (d : Operand). OperandField (before ++ es) (length (before ++ es)) d 0) (sym r) refl)
 
+  -- behind two
   behind-two : {s u : Sort} {es fs : Entries} → row .left ≡ of s → row .right ≡ of u → row .label ≡ false → Ordered before es s → Ordered (before ++ es) fs u
       → Ordered before (es ++ (fs ++ record { kind = kind; label = 0; left = length before + length es - 1; right = length before + length es + length fs - 1 } ∷ [])) (row .sort)
   unfolding OperandField LabelField
@@ -142,6 +145,7 @@ pub record TableOrdered (es : Entries) : Type 0 where
   pub right : (i : ℕ) → i < length es → EntryRight es i
   pub last : HasSort es (length es - 1) path
 
+-- it is in order
 pub text-ordered : {s : Bytes} {p : Path} → PathText s p → TableOrdered (tableOf p)
 unfolding tableOf
 text-ordered {p = p} x =

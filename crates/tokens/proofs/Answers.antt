@@ -38,10 +38,11 @@ module _ (p : Parsed) (at n : ℕ) (e : p ≡ Got at n) where
   pub written-behind : {kind : ℕ} {t u : Bytes} → Added t n (one kind 0 (n - 1) 0) u → Behind kind t p (Got at (n + 1)) u
   written-behind {kind = kind} {t = t} {u = u} w = subst (λ (q : Parsed). Behind kind t q (Got at (n + 1)) u) (sym e) (behind w)
 
-  -- the closing byte stands behind what was read, or another
+  -- the closing byte stands behind what was read
   pub closed-behind : {text : Bytes} {close : ℕ} → getD text at 0 ≡ close → Closed text close p (Got (at + 1) n)
   closed-behind {text = text} {close = close} c = subst (λ (q : Parsed). Closed text close q (Got (at + 1) n)) (sym e) (closed-by c)
 
+  -- or another byte does
   pub open-behind : {text : Bytes} {close : ℕ} → (getD text at 0 ≡ close → ⊥) → Closed text close p (Broken at)
   open-behind {text = text} {close = close} c = subst (λ (q : Parsed). Closed text close q (Broken at)) (sym e) (open-at {n = n} c)
 

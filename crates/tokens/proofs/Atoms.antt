@@ -18,21 +18,23 @@ use Rattle.tokens.specs.Reading.{one, mostOpen, Added, broken-at, Follow
 use Rattle.tokens.proofs.Places.{here, inside, not-at, nor, none-of}
 use Rattle.tokens.proofs.Following.{leaf-follows, Turns, turned, wrapped}
 
--- [ filter ] is a bracket
+-- [ filter ] is a bracket: where its reading stops
 square-stops : {k : ℕ} {b more : Bytes} {s : Stop} → Bracketed (FilterReads mostOpen) 93 k (91 ∷ b) (stopped s more) → AtomReads mostOpen k (91 ∷ b) (stopped s more)
 square-stops (stays-open o i n) = rules.square-open o i n
 square-stops (inner-stops o i) = rules.square-stops o i
 square-stops (too-deep d) = rules.square-deep d
 
+-- and where it is read
 square-got : {k : ℕ} {b more : Bytes} {f : Filter} → Bracketed (FilterReads mostOpen) 93 k (91 ∷ b) (got f more) → AtomReads mostOpen k (91 ∷ b) (got (stay f) more)
 square-got (closes o i) = rules.square o i
 
--- ( path ) is a bracket
+-- ( path ) is a bracket: where its reading stops
 round-stops : {k : ℕ} {b more : Bytes} {s : Stop} → Bracketed (PathReads mostOpen) 41 k (40 ∷ b) (stopped s more) → AtomReads mostOpen k (40 ∷ b) (stopped s more)
 round-stops (stays-open o i n) = rules.round-open o i n
 round-stops (inner-stops o i) = rules.round-stops o i
 round-stops (too-deep d) = rules.round-deep d
 
+-- and where it is read
 round-got : {k : ℕ} {b more : Bytes} {p : Path} → Bracketed (PathReads mostOpen) 41 k (40 ∷ b) (got p more) → AtomReads mostOpen k (40 ∷ b) (got p more)
 round-got (closes o i) = rules.round o i
 

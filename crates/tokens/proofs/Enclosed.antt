@@ -60,9 +60,11 @@ module _ (b : Bracket) where
   closing-seen = elim b [ Square ↦ omega arith | Round ↦ omega arith | Curly ↦ omega arith ]
 
   module _ (text : Bytes) (at : ℕ) (l : at < length text) {k n : ℕ} {before : Bytes} where
+    -- one too many
     pub bracket-too-deep : {after : Bytes} → mostOpen ≤ k → Follows (brackets b) k text at before n (Deep at) after
     bracket-too-deep d = one-too-many (insides b .reads) (insides b .written) (insides b .spare) (closingByte b) closing-seen text at l d
 
+    -- one with what stands in it
     pub bracket-follows : {after : Bytes} {p r : Parsed} {close : ℕ} → k < mostOpen → Follows (insides b) (k + 1) text (at + 1) before n p after → close ≡ closingByte b → Closed text close p r
         → Follows (brackets b) k text at before n r after
     bracket-follows {p = p} {r = r} o f e c =
