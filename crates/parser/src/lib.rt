@@ -23,9 +23,10 @@ ghost use Prim.Native.Nat.{_<_};
 ghost use lib.ListN.{length};
 ghost use Rattle.tokens.specs.Reading.{Ready, Follows, paths, filters, items, atoms, terms, chains, links, brackets};
 
-// How many brackets may be open at once.
+// "a bracket is opened while 32 are open": no more may be open at once.
 const MOST_OPEN: usize = 32;
 
+// "path: sequences joined by `|`"
 pub fn path(text: &[u8], at: usize, depth: usize, table: &mut [u8], count: usize) -> Parsed
     requires { ⌜ Ready (now text) at (now table) count ⌝ }
     ensures { λ r. ⌜ Follows paths depth (now (text .entry)) at (now (table .entry)) count r (now (table .exit)) ⌝ }
@@ -33,6 +34,7 @@ pub fn path(text: &[u8], at: usize, depth: usize, table: &mut [u8], count: usize
     chained(text, at, depth, table, count, Chain::Path)
 }
 
+// "filter: conjunctions joined by `+`"
 fn filter(text: &[u8], at: usize, depth: usize, table: &mut [u8], count: usize) -> Parsed
     requires { ⌜ Ready (now text) at (now table) count ⌝ }
     ensures { λ r. ⌜ Follows filters depth (now (text .entry)) at (now (table .entry)) count r (now (table .exit)) ⌝ }
@@ -40,7 +42,7 @@ fn filter(text: &[u8], at: usize, depth: usize, table: &mut [u8], count: usize) 
     chained(text, at, depth, table, count, Chain::Filter)
 }
 
-// Links joined by a byte, grouping to the left.
+// Links joined by a byte, grouping to the left: each link's entries, and behind the second and every later link the entry that joins it.
 fn chained(
     text: &[u8],
     at: usize,
@@ -79,6 +81,7 @@ fn chained(
     }
 }
 
+// One link: the parts of a path are sequences, of a sequence items, of a filter conjunctions, of a conjunction terms.
 fn link(
     text: &[u8],
     at: usize,
@@ -98,7 +101,7 @@ fn link(
     }
 }
 
-// An atom and any number of stars.
+// "Item: an atom and any number of `*`"
 fn item(text: &[u8], at: usize, depth: usize, table: &mut [u8], count: usize) -> Parsed
     requires { ⌜ Ready (now text) at (now table) count ⌝ }
     ensures { λ r. ⌜ Follows items depth (now (text .entry)) at (now (table .entry)) count r (now (table .exit)) ⌝ }
@@ -122,6 +125,7 @@ fn item(text: &[u8], at: usize, depth: usize, table: &mut [u8], count: usize) ->
     }
 }
 
+// "atom: `.` self, `v` child, `^` parent, `>` next, `<` previous, `[` filter `]`, `(` path `)`"
 fn atom(text: &[u8], at: usize, depth: usize, table: &mut [u8], count: usize) -> Parsed
     requires { ⌜ Ready (now text) at (now table) count ⌝ }
     ensures { λ r. ⌜ Follows atoms depth (now (text .entry)) at (now (table .entry)) count r (now (table .exit)) ⌝ }
@@ -141,7 +145,7 @@ fn atom(text: &[u8], at: usize, depth: usize, table: &mut [u8], count: usize) ->
     leaf(table, count, kind, 0, at + 1)
 }
 
-// What stands in a bracket that opens at `at`.
+// What stands in a bracket that opens at `at`, and the byte that closes it: through here paths and filters call each other.
 fn bracketed(
     text: &[u8],
     at: usize,
@@ -168,6 +172,7 @@ fn bracketed(
     }
 }
 
+// "Term: `!` term, `t`, `f`, `#` and a label, `{` filter `}`, or a path"
 fn term(text: &[u8], at: usize, depth: usize, table: &mut [u8], count: usize) -> Parsed
     requires { ⌜ Ready (now text) at (now table) count ⌝ }
     ensures { λ r. ⌜ Follows terms depth (now (text .entry)) at (now (table .entry)) count r (now (table .exit)) ⌝ }

@@ -1,5 +1,5 @@
 -- Entries behind entries: what is in order in a table stays in order, and an entry behind its operands is in order. Assumes nothing.
-use Prim.Native.Nat.{ℕ, _+_, _-_, _≤_, _<_}
+use Prim.Native.Nat.{ℕ, _+_, _≤_, _<_}
 use native.Mathlib.Decide.{decLt}
 use native.Mathlib.Omega.{arith}
 use mathlib.Core.Path.{_≡_, refl, sym, ap, _∙_, subst}
@@ -62,6 +62,7 @@ module _ (table : Entries) (e : Entry) (row : Row) (listed : rowOf (e .kind) ≡
   unfolding entryAt
   at-end = getD-at table e [] (record { kind = 0; label = 0; left = 0; right = 0 }) (length table) refl
 
+  -- its row is its kind's
   row-at-end : rowAt (table ++ e ∷ []) (length table) ≡ some row
   unfolding rowAt
   row-at-end = ap (λ (x : Entry). rowOf (x .kind)) at-end ∙ listed

@@ -11,28 +11,28 @@ use Rattle.reply.specs.declared.Reply.{Reply}
 use Rattle.reply.specs.declared.Reply.the-variants.{Count, Refused}
 use Rattle.reply.specs.Reply.{Said, number, count, refused, said}
 use Rattle.reply.specs.Bytes.{Bytes}
-use Rattle.reply.specs.Outcome.{Outcome, done, short, turned-away}
+use Rattle.reply.specs.Outcome.{done, short, turned-away}
 use Rattle.reply.proofs.Reply as the-reply
 use Rattle.reply.proofs.Checking.{counted, faulted}
 use Rattle.query.specs.Syntax.{Path}
-use Rattle.query.specs.Table.{Entries, entries, entryBytes}
+use Rattle.query.specs.Table.{entries, entryBytes}
 use Rattle.query.specs.Fault.{curators, Query}
 use Rattle.query.proofs.Unique.{query-wrong}
 use Rattle.tables.specs.Promise.{QueryChecked}
 use Rattle.text.specs.Grammar.{PathText}
 use Rattle.text.specs.Written.{tableOf}
-use Rattle.text.specs.Promise.{TextLength, OneTooMany, Fits, TextFault, bad-length, too-large, TextOf, TableGiven, TextRead}
+use Rattle.text.specs.Promise.{TextLength, OneTooMany, TextFault, too-large, TextOf, TextRead}
 use Rattle.reading.proofs.Back.{table-back}
 use Rattle.reading.proofs.Accepted.{fits-query, query-fits}
 use Rattle.tokens.specs.declared.answer.Parsed.{Parsed}
 use Rattle.tokens.specs.declared.answer.Parsed.the-variants.{Got, Broken, Deep}
 use Rattle.reader.specs.Reader.{Parses, parses, breaks-off, too-many-open, Answered}
 
--- The table is checked: by what the check replies, it is written out or refused.
--- A check that counts says that the table is a query.
+-- a check that counts says that the table is a query
 query-counted : {table : Bytes} {c : ℕ} {r : Reply} → r ≡ Count c → QueryChecked curators table (said r) → Query curators table × (c ≡ length (entries table))
 query-counted {table = table} e x = counted (subst (λ (q : Reply). QueryChecked curators table (said q)) e x)
 
+-- The table is checked: by what the check replies, it is written out or refused.
 module _ {table : Bytes} (before : Bytes) where
   -- there is room for it
   pub room-enough : {c : ℕ} {r : Reply} → r ≡ Count c → QueryChecked curators table (said r) → 1536 ≤ length before → length table ≤ length before
@@ -52,7 +52,7 @@ module _ {table : Bytes} (before : Bytes) where
       let no-query : ¬ Query curators table = query-wrong curators table (number (f .reason)) (f .place) (faulted x) in
       subst (λ (s : Said). Answered table before s before) (sym e) (turned-away zero-le (refl, refl, no-query))
 
--- what the readers say of a text that they read to its end
+-- What the readers say of a text that they read to its end.
 module _ {text : Bytes} {p : Parsed} {at n : ℕ} {table : Bytes} (e : p ≡ Got at n) (x : Parses text p table) where
   pub record Read : Type 0 where
     pub path : Path
@@ -63,6 +63,7 @@ module _ {text : Bytes} {p : Parsed} {at n : ℕ} {table : Bytes} (e : p ≡ Got
     pub few : n ≤ 2048
     pub front : take (6 * n) table ≡ entryBytes (tableOf path)
 
+  -- and they say it
   pub got-read : Read
   got-read = go (subst (λ (q : Parsed). Parses text q table) e x)
     where
@@ -81,13 +82,14 @@ module _ (text before : Bytes) where
     unfolding TextRead
     fault-told f e = subst (λ (s : Said). TextRead text before s before) (sym e) (turned-away room f)
 
-    -- a stop of the readers
+    -- a byte that the grammar does not take
     pub broken-told : {p : Parsed} {i : ℕ} {after : Bytes} {s : Said} → p ≡ Broken i → Parses text p after → s ≡ refused 14 i → TextRead text before s before
     broken-told {i = i} {after = after} e x = fault-told (go (subst (λ (q : Parsed). Parses text q after) e x))
       where
         go : Parses text (Broken i) after → TextFault text 14 i
         go (breaks-off f) = f
 
+    -- a bracket too many
     pub deep-told : {p : Parsed} {i : ℕ} {after : Bytes} {s : Said} → p ≡ Deep i → Parses text p after → s ≡ refused 15 i → TextRead text before s before
     deep-told {i = i} {after = after} e x = fault-told (go (subst (λ (q : Parsed). Parses text q after) e x))
       where

@@ -2,20 +2,20 @@
 use Prim.Native.Nat.{ℕ, suc, _+_, _-_, _*_, _≤_, _<_}
 use native.Mathlib.Omega.{arith}
 use native.Mathlib.Nat.{zero-add}
-use mathlib.Core.Path.{_≡_, refl, sym, ap, _∙_, subst}
-use mathlib.Core.List.{[], _∷_, _++_}
+use mathlib.Core.Path.{_≡_, sym, _∙_, subst}
+use mathlib.Core.List.{[], _∷_}
 use lib.ListN.{length, getD, take, drop, length-drop, drop-of-length-le}
 use Rattle.reply.specs.Bytes.{Bytes}
 use Rattle.query.specs.Syntax.{Path}
-use Rattle.query.specs.Table.{Entries, entryBytes}
+use Rattle.query.specs.Table.{entryBytes}
 use Rattle.text.specs.Grammar.{PathText}
 use Rattle.text.specs.Written.{tableOf, pathEntries}
 use Rattle.text.specs.Promise.{TextLength, OneTooMany, TextFault}
-use Rattle.reading.proofs.Rules.{Stop, Result, got, stopped, PathReads}
+use Rattle.reading.proofs.Rules.{Stop, got, stopped, PathReads}
 use Rattle.reading.proofs.Rules as rules
 use Rattle.reading.proofs.Judged.{Judged, read, not-whole, broken, deep, judged}
 use Rattle.tokens.specs.declared.answer.Parsed.{Parsed}
-use Rattle.tokens.specs.declared.answer.Parsed.the-variants.{Got, Broken, Deep}
+use Rattle.tokens.specs.declared.answer.Parsed.the-variants.{Got, Broken}
 use Rattle.tokens.specs.Reading.{StopsAt, broken-at, deep-at, Follows, follows, stops, paths}
 use Rattle.tokens.proofs.Places.{begins}
 use Rattle.tokens.proofs.Answers.{Failed, not-failed}
@@ -27,25 +27,29 @@ place : (text : Bytes) (i : ℕ) → i ≤ length text → length text - length 
 place text i l = omega (arith, length-drop i text)
 
 module _ {text : Bytes} where
-  -- what is judged, by the case
+  -- what is judged of a text that breaks
   broken-fault : {more : Bytes} → Judged text (stopped rules.broken more) → TextFault text 14 (length text - length more)
   broken-fault (broken f) = f
 
+  -- of one with a bracket too many
   deep-fault : {more : Bytes} → Judged text (stopped rules.deep more) → TextFault text 15 (length text - length more)
   deep-fault (deep f) = f
 
+  -- of one that goes on behind a path
   more-fault : {p : Path} {c : ℕ} {more : Bytes} → Judged text (got p (c ∷ more)) → TextFault text 14 (length text - suc (length more))
   more-fault (not-whole f) = f
 
+  -- and of a path's
   whole-text : {p : Path} → Judged text (got p []) → PathText text p × ((k : ℕ) → ¬ OneTooMany text k)
   whole-text (read x s) = (x, s)
 
   module _ (right : TextLength text) where
-    -- reading stops
+    -- reading stops at a place
     stops-parses : {p : Parsed} {s : Stop} {i : ℕ} {after : Bytes} → StopsAt p s i → PathReads 32 0 text (stopped s (drop i text)) → i ≤ length text → Parses text p after
     stops-parses {i = i} broken-at rd w = breaks-off (subst (TextFault text 14) (place text i w) (broken-fault (judged right rd)))
     stops-parses {i = i} deep-at rd w = too-many-open (subst (TextFault text 15) (place text i w) (deep-fault (judged right rd)))
 
+    -- reading failed
     pub stopped-parses : {p : Parsed} {before after : Bytes} → Failed p → Follows paths 0 text 0 before 0 p after → Parses text p after
     stopped-parses f (follows {to = to} {m = m} rd st) = absurd (not-failed to m f)
     stopped-parses f (stops st rd w) = stops-parses st rd w

@@ -1,4 +1,5 @@
 -- What the parts of call 2 come to: a text is parsed whole, and the table of a text in the grammar is written out if it is within the limits.
+-- Nothing here has to be believed: call 2's promise is the crate text's.
 use Prim.Native.Nat.{ℕ, _*_, _≤_}
 use mathlib.Core.Path.{_≡_}
 use lib.ListN.{length, take}

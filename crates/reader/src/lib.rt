@@ -8,7 +8,6 @@ use tables::check_query;
 use tables::limits::CURATOR_ENTRIES;
 use tables::limits::CURATOR_HEIGHT;
 use tokens::answer::Parsed;
-ghost use mathlib.Core.Path.{_≡_};
 ghost use Prim.Native.Nat.{_*_, _≤_};
 ghost use lib.ListN.{length};
 ghost use Rattle.reply.specs.Reply.{said};
@@ -22,7 +21,7 @@ const ROOM: usize = 1536;
 const MOST_BYTES: usize = 1024;
 
 // Two entries of six bytes for each byte of a text: no text writes more.
-const TABLE: usize = 12288;
+const TABLE: usize = 12 * MOST_BYTES;
 
 // The whole text as a path: nothing may stand behind it.
 fn read_whole(text: &[u8], table: &mut [u8]) -> Parsed
@@ -30,7 +29,7 @@ fn read_whole(text: &[u8], table: &mut [u8]) -> Parsed
     ensures { λ r. ⌜ Parses (now (text .entry)) r (now (table .exit)) ⌝ }
 {
     let parsed = path(text, 0, 0, table, 0);
-    let Parsed::Got { at, count } = parsed else {
+    let Parsed::Got { at, count: _ } = parsed else {
         return parsed;
     };
     if at < text.len() {

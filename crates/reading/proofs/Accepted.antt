@@ -1,14 +1,14 @@
 -- The table of a text is a curator's query exactly if it fits: what call 2 writes, the calls that take a query accept. Assumes nothing.
-use Prim.Native.Nat.{ℕ, _+_, _-_, _*_, _%_, _≤_, _<_}
+use Prim.Native.Nat.{_-_, _*_, _≤_, _<_}
 use native.Mathlib.Omega.{arith}
-use mathlib.Core.Path.{_≡_, refl, sym, ap, _∙_, subst}
-use mathlib.Core.List.{[], _∷_, _++_}
+use mathlib.Core.Path.{_≡_, refl, sym, subst}
+use mathlib.Core.List.{[], _∷_}
 use lib.ListN.{length}
 use Rattle.reply.specs.Bytes.{Bytes, twoBytes}
 use Rattle.query.specs.Kind.{path}
 use Rattle.query.specs.Syntax.{Path}
 use Rattle.query.specs.Table.{Entries, entries, entryBytes, heightAt, HasSort, EntryRight}
-use Rattle.query.specs.Fault.{curators, EntryFits, last, Query}
+use Rattle.query.specs.Fault.{curators, last, Query}
 use Rattle.text.specs.Grammar.{PathText}
 use Rattle.text.specs.Written.{tableOf}
 use Rattle.text.specs.Promise.{Fits, TextOf}

@@ -2,7 +2,7 @@
 use Prim.Native.Nat.{ℕ, _+_, _-_, _≤_, _<_}
 use native.Mathlib.Nat.{zero-add}
 use native.Mathlib.Omega.{arith}
-use mathlib.Core.Path.{_≡_, refl, sym, ap, _∙_, subst}
+use mathlib.Core.Path.{_≡_, refl, sym, subst}
 use mathlib.Core.Bool.{Bool, false}
 use mathlib.Core.List.{[], _∷_, _++_, append-assoc}
 use mathlib.Core.Option.{some}
@@ -10,11 +10,10 @@ use lib.ListN.{length, length-append}
 use Rattle.reply.specs.Bytes.{Bytes}
 use Rattle.tree.specs.Tree.{Label}
 use Rattle.query.specs.Kind.{Sort, path, filter, Operand, unused, of, Row, find, kinds, rowOf}
-use Rattle.query.specs.Syntax.{Path, self, child, parent, next, previous, stay, then, either, star}
-use Rattle.query.specs.Syntax.{Filter, labelled, leads, always, never, not, and, or}
+use Rattle.query.specs.Syntax.{Path}
 use Rattle.query.specs.Table.{Entry, Entries, HasSort, LabelField, OperandField, EntryRight}
 use Rattle.query.proofs.Appended.{AllRight, both-right, sort-kept, sort-at-end, right-at-end}
-use Rattle.text.specs.Grammar.{LabelText, one-digit, two-digits, PathText, SequenceText, ItemText, AtomText, FilterText, ConjunctionText, TermText}
+use Rattle.text.specs.Grammar.{LabelText, one-digit, two-digits, PathText}
 use Rattle.text.specs.Grammar as grammar
 use Rattle.text.specs.Written.{pathEntries, filterEntries, tableOf}
 
@@ -50,18 +49,20 @@ module _ {before es : Entries} where
   unfolding OperandField
   operand o = (omega (arith, length-append before es, o .some), o .last)
 
--- nothing behind other entries is in order
+-- no entries are in order
 none-right : {before : Entries} → AllRight before []
 none-right = record { each = λ i l h. absurd (omega arith) }
 
 -- An entry of a kind with a row, without operands, behind one operand, and behind two.
 module _ (before : Entries) (kind : ℕ) {row : Row} (listed : rowOf kind ≡ some row) where
+  -- without operands
   alone : {label : ℕ} → row .left ≡ unused → row .right ≡ unused → LabelField (row .label) label → Ordered before (record { kind = kind; label = label; left = 0; right = 0 } ∷ []) (row .sort)
   unfolding OperandField
   alone {label = label} l r used =
       closed (record { kind = kind; label = label; left = 0; right = 0 }) row listed none-right used
       (subst (λ (o : Operand). OperandField (before ++ []) (length (before ++ [])) o 0) (sym l) refl) (subst (λ (o : Operand). OperandField (before ++ []) (length (before ++ [])) o 0) (sym r) refl)
 
+  -- behind one
   behind-one : {s : Sort} {es : Entries} → row .left ≡ of s → row .right ≡ unused → row .label ≡ false → Ordered before es s
       → Ordered before (es ++ record { kind = kind; label = 0; left = length before + length es - 1; right = 0 } ∷ []) (row .sort)
   unfolding OperandField LabelField
@@ -70,6 +71,7 @@ module _ (before : Entries) (kind : ℕ) {row : Row} (listed : rowOf kind ≡ so
       (subst (λ (d : Operand). OperandField (before ++ es) (length (before ++ es)) d (length before + length es - 1)) (sym l) (operand o))
       (subst (λ (d : Operand). OperandField (before ++ es) (length (before ++ es)) d 0) (sym r) refl)
 
+  -- behind two
   behind-two : {s u : Sort} {es fs : Entries} → row .left ≡ of s → row .right ≡ of u → row .label ≡ false → Ordered before es s → Ordered (before ++ es) fs u
       → Ordered before (es ++ (fs ++ record { kind = kind; label = 0; left = length before + length es - 1; right = length before + length es + length fs - 1 } ∷ [])) (row .sort)
   unfolding OperandField LabelField
@@ -143,6 +145,7 @@ pub record TableOrdered (es : Entries) : Type 0 where
   pub right : (i : ℕ) → i < length es → EntryRight es i
   pub last : HasSort es (length es - 1) path
 
+-- it is in order
 pub text-ordered : {s : Bytes} {p : Path} → PathText s p → TableOrdered (tableOf p)
 unfolding tableOf
 text-ordered {p = p} x =

@@ -2,7 +2,7 @@
 use Prim.Native.Nat.{ℕ, _+_, _-_, _*_, _≤_}
 use native.Mathlib.Omega.{arith}
 use mathlib.Core.Path.{_≡_, sym, subst}
-use mathlib.Core.Logic.{_⊎_, inl, inr}
+use mathlib.Core.Logic.{inl, inr}
 use mathlib.Core.List.{[], _∷_}
 use lib.ListN.{length, getD}
 use denote.Enum.Declared.{tagOf}
@@ -11,7 +11,7 @@ use Rattle.reply.specs.Bytes.{Bytes}
 use Rattle.reading.proofs.Rules.{Stop, broken, deep}
 use Rattle.tokens.specs.declared.answer.Parsed.{Parsed}
 use Rattle.tokens.specs.declared.answer.Parsed.the-variants.{Got, Broken, Deep}
-use Rattle.tokens.specs.Reading.{StopsAt, broken-at, deep-at, RoomBehind, Behind, behind, passed-on, Added, one, placeOf, Closed, closed-by, open-at}
+use Rattle.tokens.specs.Reading.{StopsAt, broken-at, deep-at, RoomBehind, Behind, behind, Added, one, placeOf, Closed, closed-by, open-at}
 use Rattle.tokens.proofs.answer.Parsed as parsed
 
 -- the answer is one of the stops
@@ -38,10 +38,11 @@ module _ (p : Parsed) (at n : ℕ) (e : p ≡ Got at n) where
   pub written-behind : {kind : ℕ} {t u : Bytes} → Added t n (one kind 0 (n - 1) 0) u → Behind kind t p (Got at (n + 1)) u
   written-behind {kind = kind} {t = t} {u = u} w = subst (λ (q : Parsed). Behind kind t q (Got at (n + 1)) u) (sym e) (behind w)
 
-  -- the closing byte stands behind what was read, or another
+  -- the closing byte stands behind what was read
   pub closed-behind : {text : Bytes} {close : ℕ} → getD text at 0 ≡ close → Closed text close p (Got (at + 1) n)
   closed-behind {text = text} {close = close} c = subst (λ (q : Parsed). Closed text close q (Got (at + 1) n)) (sym e) (closed-by c)
 
+  -- or another byte does
   pub open-behind : {text : Bytes} {close : ℕ} → (getD text at 0 ≡ close → ⊥) → Closed text close p (Broken at)
   open-behind {text = text} {close = close} c = subst (λ (q : Parsed). Closed text close q (Broken at)) (sym e) (open-at {n = n} c)
 

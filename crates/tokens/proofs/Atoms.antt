@@ -1,38 +1,40 @@
 -- Atoms: by the byte at the place, an axis, a bracket, or none. Assumes nothing.
-use Prim.Native.Nat.{ℕ, _+_, _-_, _*_, _≤_, _<_}
+use Prim.Native.Nat.{ℕ, _+_, _≤_, _<_}
 use native.Mathlib.Omega.{arith}
 use native.Mathlib.Nat.{le-refl}
-use mathlib.Core.Path.{_≡_, refl, sym, ap, _∙_, subst}
+use mathlib.Core.Path.{_≡_, refl, sym, subst}
 use mathlib.Core.Logic.{⊎-elim}
-use mathlib.Core.List.{[], _∷_, _++_, List·Memᴰ, List·Memᴰ·append-cases}
+use mathlib.Core.List.{[], _∷_, List·Memᴰ, List·Memᴰ·append-cases}
 use lib.ListN.{length, getD, drop}
 use Rattle.reply.specs.Bytes.{Bytes}
 use Rattle.query.specs.Syntax.{Path, self, child, parent, next, previous, stay, Filter}
 use Rattle.text.specs.Written.{pathEntries}
-use Rattle.reading.proofs.Rules.{Stop, broken, Result, got, stopped, NotAt, atomBytes, AtomReads, FilterReads, PathReads}
+use Rattle.reading.proofs.Rules.{Stop, got, stopped, atomBytes, AtomReads, FilterReads, PathReads}
 use Rattle.reading.proofs.Rules as rules
 use Rattle.tokens.specs.declared.answer.Parsed.{Parsed}
-use Rattle.tokens.specs.declared.answer.Parsed.the-variants.{Got, Broken, Deep}
+use Rattle.tokens.specs.declared.answer.Parsed.the-variants.{Got, Broken}
 use Rattle.tokens.specs.declared.kind.Bracket.the-variants as bracket
 use Rattle.tokens.specs.Reading.{one, mostOpen, Added, broken-at, Follows, stops, atoms, brackets, Bracketed, closes, stays-open, inner-stops, too-deep, Behind, AxisOf, dot, letter-v, caret, greater, less, no-axis}
 use Rattle.tokens.proofs.Places.{here, inside, not-at, nor, none-of}
 use Rattle.tokens.proofs.Following.{leaf-follows, Turns, turned, wrapped}
 
--- [ filter ] is a bracket
+-- [ filter ] is a bracket: where its reading stops
 square-stops : {k : ℕ} {b more : Bytes} {s : Stop} → Bracketed (FilterReads mostOpen) 93 k (91 ∷ b) (stopped s more) → AtomReads mostOpen k (91 ∷ b) (stopped s more)
 square-stops (stays-open o i n) = rules.square-open o i n
 square-stops (inner-stops o i) = rules.square-stops o i
 square-stops (too-deep d) = rules.square-deep d
 
+-- and where it is read
 square-got : {k : ℕ} {b more : Bytes} {f : Filter} → Bracketed (FilterReads mostOpen) 93 k (91 ∷ b) (got f more) → AtomReads mostOpen k (91 ∷ b) (got (stay f) more)
 square-got (closes o i) = rules.square o i
 
--- ( path ) is a bracket
+-- ( path ) is a bracket: where its reading stops
 round-stops : {k : ℕ} {b more : Bytes} {s : Stop} → Bracketed (PathReads mostOpen) 41 k (40 ∷ b) (stopped s more) → AtomReads mostOpen k (40 ∷ b) (stopped s more)
 round-stops (stays-open o i n) = rules.round-open o i n
 round-stops (inner-stops o i) = rules.round-stops o i
 round-stops (too-deep d) = rules.round-deep d
 
+-- and where it is read
 round-got : {k : ℕ} {b more : Bytes} {p : Path} → Bracketed (PathReads mostOpen) 41 k (40 ∷ b) (got p more) → AtomReads mostOpen k (40 ∷ b) (got p more)
 round-got (closes o i) = rules.round o i
 

@@ -1,22 +1,22 @@
 -- Links that are joined in turn, grouping to the left; and an atom with its stars. Assumes nothing.
-use Prim.Native.Nat.{ℕ, _+_, _-_, _*_, _≤_, _<_}
+use Prim.Native.Nat.{ℕ, _+_, _-_, _<_}
 use native.Mathlib.Omega.{arith}
 use mathlib.Core.Path.{_≡_, refl, sym, ap, _∙_, subst}
 use mathlib.Core.List.{[], _∷_, _++_}
 use lib.ListN.{length, getD, drop, length-append}
 use Rattle.reply.specs.Bytes.{Bytes}
-use Rattle.query.specs.Syntax.{Path, then, either, star, Filter, and, or}
+use Rattle.query.specs.Syntax.{Path, then, either, Filter, and, or}
 use Rattle.query.specs.Table.{Entries}
-use Rattle.text.specs.Written.{pathEntries, filterEntries}
-use Rattle.reading.proofs.Rules.{Stop, Result, got, stopped, NotAt, PathGoesOn, SequenceGoesOn, FilterGoesOn, ConjunctionGoesOn, StarsRead}
+use Rattle.text.specs.Written.{pathEntries}
+use Rattle.reading.proofs.Rules.{Stop, Result, got, stopped, NotAt, PathGoesOn, SequenceGoesOn, FilterGoesOn, ConjunctionGoesOn}
 use Rattle.reading.proofs.Rules as rules
 use Rattle.tokens.specs.declared.answer.Parsed.{Parsed}
-use Rattle.tokens.specs.declared.answer.Parsed.the-variants.{Got, Broken, Deep}
+use Rattle.tokens.specs.declared.answer.Parsed.the-variants.{Got}
 use Rattle.tokens.specs.declared.kind.Chain.{Chain}
 use Rattle.tokens.specs.declared.kind.Chain.the-variants as chain
-use Rattle.tokens.specs.Reading.{Line, asLine, one, Added, Stands, StopsAt, Follows, follows, stops, Ready, mostOpen, Joined, joinedEntries, joinedSpare, ChainReads, LinkReads, chains, links, joining, joinedKind, items, atoms}
+use Rattle.tokens.specs.Reading.{Line, asLine, one, Added, Stands, Follows, follows, stops, mostOpen, Joined, joinedEntries, ChainReads, LinkReads, joining, joinedKind}
 use Rattle.tokens.proofs.Entries.{added-on}
-use Rattle.tokens.proofs.Places.{here, inside, not-at, none-of, nor}
+use Rattle.tokens.proofs.Places.{here, not-at, none-of, nor}
 use Rattle.tokens.proofs.Answers.{Failed, not-failed}
 use Rattle.tokens.proofs.Following.{got-stands}
 
@@ -31,19 +31,21 @@ pub record Chaining (A : Type 0) (link whole : ℕ → Bytes → Result A → Ty
       written n (join x y) ≡ written n x ++ (written m y ++ one kind 0 (m - 1) (m + length (written m y) - 1))
   pub seen : 0 < byte
 
--- The rules of the four chains.
+-- what joined links make
 abbrev pub join : (c : Chain) → Joined c → Joined c → Joined c
 join chain.Path = either
 join chain.Sequence = then
 join chain.Filter = or
 join chain.Conjunction = and
 
+-- how a chain goes on behind what is read of it
 abbrev pub GoesOn : (c : Chain) → ℕ → Joined c → Bytes → Result (Joined c) → Type 0
 GoesOn chain.Path = PathGoesOn mostOpen
 GoesOn chain.Sequence = SequenceGoesOn mostOpen
 GoesOn chain.Filter = FilterGoesOn mostOpen
 GoesOn chain.Conjunction = ConjunctionGoesOn mostOpen
 
+-- the rules of the four chains
 pub chaining : (c : Chain) → Chaining (Joined c) (LinkReads c) (ChainReads c) (GoesOn c) (joinedEntries c) (join c) (joining c) (joinedKind c)
 unfolding pathEntries
 chaining chain.Path = record { starts = rules.path; start-stops = rules.path-stops; joins = rules.bar; join-stops = rules.bar-stops; ends = rules.no-bar; writes = λ n x y. refl; seen = omega arith }
@@ -58,7 +60,7 @@ pub record Going (line : Line) (more : line .Thing → Bytes → Result (line .T
   pub stands : Stands (line .written) (line .spare) text at before n thing next m after
 
 module _ {A : Type 0} {link whole : ℕ → Bytes → Result A → Type 0} {more : ℕ → A → Bytes → Result A → Type 0} {written : ℕ → A → Entries} {join : A → A → A} {byte kind : ℕ}
-    (chained : Chaining A link whole more written join byte kind) (spare : ℕ) {k : ℕ} {text : Bytes} {at : ℕ} {before : Bytes} {n : ℕ} where
+    (chained : Chaining A link whole more written join byte kind) {spare k : ℕ} {text : Bytes} {at : ℕ} {before : Bytes} {n : ℕ} where
   -- the first link is read
   pub started : {p : Parsed} {to m : ℕ} {after : Bytes} → p ≡ Got to m → Follows (asLine link written spare) k text at before n p after
       → Going (asLine whole written spare) (more k) k text at before n to m after

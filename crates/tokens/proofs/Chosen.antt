@@ -1,7 +1,7 @@
--- Which chain, and which bracket, a test of its variant says. Assumes nothing.
+-- Which chain a test of its variant says. Assumes nothing.
 use Prim.Native.Nat.{ℕ}
 use mathlib.Core.Path.{_≡_, refl, sym, subst}
-use mathlib.Core.List.{List, [], _∷_}
+use mathlib.Core.List.{[], _∷_}
 use lib.ListN.{getD}
 use denote.Enum.Declared.{tagOf}
 use Rattle.reply.specs.Bytes.{Bytes}
@@ -15,6 +15,7 @@ use Rattle.tokens.proofs.kind.Chain as the-chain
 abbrev pub chainAt : ℕ → Chain
 chainAt i = getD (Path ∷ Sequence ∷ Filter ∷ Conjunction ∷ []) i Path
 
+-- the variant's number says which chain it is
 pub chosen : (c : Chain) {i : ℕ} → tagOf the-chain.the-type c ≡ i → c ≡ chainAt i
 chosen Path e = subst (λ (j : ℕ). Path ≡ chainAt j) e refl
 chosen Sequence e = subst (λ (j : ℕ). Sequence ≡ chainAt j) e refl

@@ -1,22 +1,22 @@
 -- Brackets: what stands in one, with one more open, and the byte that closes it. Assumes nothing.
-use Prim.Native.Nat.{ℕ, suc, _+_, _-_, _*_, _≤_, _<_}
+use Prim.Native.Nat.{ℕ, suc, _+_, _≤_, _<_}
 use native.Mathlib.Omega.{arith}
 use native.Mathlib.Numerals.{add-one}
-use mathlib.Core.Path.{_≡_, refl, sym, ap, _∙_, subst}
-use mathlib.Core.List.{[], _∷_, _++_}
+use mathlib.Core.Path.{_≡_, sym, subst}
+use mathlib.Core.List.{[], _∷_}
 use mathlib.Core.Logic.{inl, inr}
 use lib.ListN.{length, getD, drop}
 use denote.Enum.Declared.{tagOf}
 use types.Run.{OneOf}
 use Rattle.reply.specs.Bytes.{Bytes}
 use Rattle.query.specs.Table.{Entries}
-use Rattle.reading.proofs.Rules.{Result, got, stopped, broken, deep, NotAt}
+use Rattle.reading.proofs.Rules.{Result, got, stopped, deep}
 use Rattle.tokens.specs.declared.answer.Parsed.{Parsed}
-use Rattle.tokens.specs.declared.answer.Parsed.the-variants.{Got, Broken, Deep}
+use Rattle.tokens.specs.declared.answer.Parsed.the-variants.{Deep}
 use Rattle.tokens.specs.declared.kind.Bracket.{Bracket}
 use Rattle.tokens.specs.declared.kind.Bracket.the-variants.{Square, Round, Curly}
 use Rattle.tokens.proofs.kind.Bracket as the-bracket
-use Rattle.tokens.specs.Reading.{paths, filters, insides, brackets, closingByte, asLine, mostOpen, StopsAt, broken-at, deep-at, Follows, follows, stops, Bracketed, closes, stays-open, inner-stops, too-deep, Closed, closed-by, open-at, passed-by}
+use Rattle.tokens.specs.Reading.{paths, filters, insides, brackets, closingByte, asLine, mostOpen, broken-at, deep-at, Follows, follows, stops, Bracketed, closes, stays-open, inner-stops, too-deep, Closed, closed-by, open-at, passed-by}
 use Rattle.tokens.proofs.Places.{begins, here, inside, not-at, none-of, nor}
 use Rattle.tokens.proofs.Following.{no-stop}
 
@@ -60,9 +60,11 @@ module _ (b : Bracket) where
   closing-seen = elim b [ Square ↦ omega arith | Round ↦ omega arith | Curly ↦ omega arith ]
 
   module _ (text : Bytes) (at : ℕ) (l : at < length text) {k n : ℕ} {before : Bytes} where
+    -- one too many
     pub bracket-too-deep : {after : Bytes} → mostOpen ≤ k → Follows (brackets b) k text at before n (Deep at) after
     bracket-too-deep d = one-too-many (insides b .reads) (insides b .written) (insides b .spare) (closingByte b) closing-seen text at l d
 
+    -- one with what stands in it
     pub bracket-follows : {after : Bytes} {p r : Parsed} {close : ℕ} → k < mostOpen → Follows (insides b) (k + 1) text (at + 1) before n p after → close ≡ closingByte b → Closed text close p r
         → Follows (brackets b) k text at before n r after
     bracket-follows {p = p} {r = r} o f e c =

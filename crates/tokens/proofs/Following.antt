@@ -2,14 +2,14 @@
 use Prim.Native.Nat.{ℕ, _+_, _-_, _*_, _≤_, _<_}
 use native.Mathlib.Omega.{arith}
 use mathlib.Core.Path.{_≡_, refl, sym, ap, _∙_, subst}
-use mathlib.Core.List.{[], _∷_, _++_}
+use mathlib.Core.List.{_++_}
 use lib.ListN.{length, drop, length-append}
 use Rattle.reply.specs.Bytes.{Bytes}
 use Rattle.query.specs.Table.{Entries}
-use Rattle.reading.proofs.Rules.{Stop, Result, got, stopped}
+use Rattle.reading.proofs.Rules.{Stop, got, stopped}
 use Rattle.tokens.specs.declared.answer.Parsed.{Parsed}
-use Rattle.tokens.specs.declared.answer.Parsed.the-variants.{Got, Broken, Deep}
-use Rattle.tokens.specs.Reading.{Line, asLine, one, Added, Stands, StopsAt, broken-at, deep-at, Follows, follows, stops, Ready, placeOf, RoomBehind, Behind, behind, passed-on}
+use Rattle.tokens.specs.declared.answer.Parsed.the-variants.{Got}
+use Rattle.tokens.specs.Reading.{Line, one, Added, Stands, StopsAt, broken-at, deep-at, Follows, follows, stops, Ready, placeOf, RoomBehind, Behind, behind, passed-on}
 use Rattle.tokens.proofs.Entries.{added-on}
 
 -- what was read is no stop

@@ -8,7 +8,7 @@ use lib.ListN.{length, getD, drop}
 use denote.Enum.Declared.{tagOf}
 use types.Run.{OneOf}
 use Rattle.reply.specs.Bytes.{Bytes}
-use Rattle.reading.proofs.Rules.{broken, Result, got, stopped, NoSecond, NoDigit, LabelReads, one-digit, two-digits, no-digit}
+use Rattle.reading.proofs.Rules.{got, NoSecond, NoDigit, LabelReads, one-digit, two-digits, no-digit}
 use Rattle.reading.proofs.Rules as rules
 use Rattle.tokens.specs.Label.{DigitOf, digit, too-low, too-high, LabelAt, number, nothing}
 use Rattle.tokens.specs.declared.label.Label.{Label}
@@ -56,6 +56,7 @@ module _ (text : Bytes) (at : ℕ) where
     first : drop at text ≡ (48 + d) ∷ drop (at + 1) text
     first = here text at (48 + d) (a-digit h small .1) (omega arith)
 
+    -- it is a byte of the text
     first-inside : at < length text
     first-inside = let e = a-digit h small .1 in inside text at (omega arith)
 
@@ -79,7 +80,7 @@ module _ (text : Bytes) (at : ℕ) where
         let j : at + 1 < length text = inside text (at + 1) (omega arith) in
         number {to = at + 2} (subst (λ (b : Bytes). LabelReads b (got (10 * d + e) (drop (at + 2) text))) (sym both) (two-digits (omega arith) (omega arith) z)) (omega arith) (omega arith)
 
--- a label that was read, as its filter is written
+-- What was found at the place of a label.
 module _ {text : Bytes} {at : ℕ} {label : Label} (h : LabelAt text at label) where
   -- there is none
   pub not-numbered : {before after : Bytes} {n : ℕ} → OneOf (1 ∷ []) (tagOf the-label.the-type label) → at ≤ length text → Follows labels 0 text at before n (Broken at) after
@@ -97,5 +98,6 @@ module _ {text : Bytes} {at : ℕ} {label : Label} (h : LabelAt text at label) w
         go : LabelAt text at (Number value next) → LabelReads (drop at text) (got value (drop next text)) × (at < next) × (next ≤ length text)
         go (number rd l i) = (rd, l, i)
 
+    -- its entry is written
     pub number-follows : {before after : Bytes} {n : ℕ} {p : Parsed} → (p ≡ Got next (n + 1)) × Added before n (one 16 value 0 0) after → Follows labels 0 text at before n p after
     number-follows w = leaf-follows {to = next} value (numbered .0) refl (omega arith) (numbered .1) (numbered .2) w

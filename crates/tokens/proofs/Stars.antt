@@ -1,14 +1,14 @@
 -- An atom and its stars. Assumes nothing.
-use Prim.Native.Nat.{ℕ, _+_, _-_, _*_, _≤_, _<_}
+use Prim.Native.Nat.{ℕ, _+_, _-_, _<_}
 use native.Mathlib.Omega.{arith}
-use mathlib.Core.Path.{_≡_, refl, sym, ap, _∙_, subst}
-use mathlib.Core.List.{[], _∷_, _++_}
+use mathlib.Core.Path.{_≡_, sym, subst}
+use mathlib.Core.List.{[], _∷_}
 use lib.ListN.{length, getD, drop, length-append}
 use Rattle.reply.specs.Bytes.{Bytes}
 use Rattle.query.specs.Syntax.{Path, star}
 use Rattle.query.specs.Table.{Entries}
 use Rattle.text.specs.Written.{pathEntries}
-use Rattle.reading.proofs.Rules.{Result, got, stopped, NotAt, StarsRead, one-more, no-more, item, item-stops}
+use Rattle.reading.proofs.Rules.{got, NotAt, StarsRead, one-more, no-more, item, item-stops}
 use Rattle.tokens.specs.declared.answer.Parsed.{Parsed}
 use Rattle.tokens.specs.declared.answer.Parsed.the-variants.{Got}
 use Rattle.tokens.specs.Reading.{one, Added, Follows, follows, stops, items, atoms}

@@ -1,14 +1,14 @@
 -- Terms: by the byte at the place, one of the five, or a path. Assumes nothing.
-use Prim.Native.Nat.{ℕ, _+_, _-_, _*_, _≤_, _<_}
+use Prim.Native.Nat.{ℕ, _+_, _<_}
 use native.Mathlib.Omega.{arith}
 use native.Mathlib.Nat.{le-refl, le-add-right}
-use mathlib.Core.Path.{_≡_, refl, sym, ap, _∙_, subst}
-use mathlib.Core.List.{[], _∷_, _++_, List·Memᴰ}
+use mathlib.Core.Path.{_≡_, refl, sym, subst}
+use mathlib.Core.List.{_∷_, List·Memᴰ}
 use lib.ListN.{length, getD, drop}
 use Rattle.reply.specs.Bytes.{Bytes}
 use Rattle.query.specs.Syntax.{Filter, labelled, leads, always, never, not}
 use Rattle.text.specs.Written.{filterEntries}
-use Rattle.reading.proofs.Rules.{Stop, Result, got, stopped, NotAt, termBytes, TermReads, FilterReads}
+use Rattle.reading.proofs.Rules.{Stop, got, stopped, NotAt, termBytes, TermReads, FilterReads}
 use Rattle.reading.proofs.Rules as rules
 use Rattle.tokens.specs.declared.answer.Parsed.{Parsed}
 use Rattle.tokens.specs.declared.answer.Parsed.the-variants.{Got}
@@ -17,12 +17,13 @@ use Rattle.tokens.specs.Reading.{Line, one, mostOpen, Added, Follows, pa
 use Rattle.tokens.proofs.Places.{here, inside, not-at}
 use Rattle.tokens.proofs.Following.{leaf-follows, Turns, turned, wrapped}
 
--- { filter } is a bracket
+-- { filter } is a bracket: where its reading stops
 curly-stops : {k : ℕ} {b more : Bytes} {s : Stop} → Bracketed (FilterReads mostOpen) 125 k (123 ∷ b) (stopped s more) → TermReads mostOpen k (123 ∷ b) (stopped s more)
 curly-stops (stays-open o i n) = rules.curly-open o i n
 curly-stops (inner-stops o i) = rules.curly-stops o i
 curly-stops (too-deep d) = rules.curly-deep d
 
+-- and where it is read
 curly-got : {k : ℕ} {b more : Bytes} {f : Filter} → Bracketed (FilterReads mostOpen) 125 k (123 ∷ b) (got f more) → TermReads mostOpen k (123 ∷ b) (got f more)
 curly-got (closes o i) = rules.curly o i
 
@@ -40,10 +41,12 @@ module _ {text : Bytes} {at k n : ℕ} {before : Bytes} where
       let i : at < length text = inside text at (omega arith) in
       leaf-follows {to = at + 1} f (subst (λ (b : Bytes). TermReads mostOpen k b (got f (drop (at + 1) text))) (sym (here text at byte e s)) rd) w (omega arith) (omega arith) (omega arith) l
 
+  -- t
   pub t-follows : {after : Bytes} {p : Parsed} → getD text at 0 ≡ 116 → (p ≡ Got (at + 1) (n + 1)) × Added before n (one 18 0 0 0) after → Follows terms k text at before n p after
   unfolding filterEntries
   t-follows e l = letter always e (omega arith) rules.letter-t refl l
 
+  -- f
   pub f-follows : {after : Bytes} {p : Parsed} → getD text at 0 ≡ 102 → (p ≡ Got (at + 1) (n + 1)) × Added before n (one 19 0 0 0) after → Follows terms k text at before n p after
   unfolding filterEntries
   f-follows e l = letter never e (omega arith) rules.letter-f refl l

@@ -1,4 +1,4 @@
--- What the reader of a label comes to, in terms of the rules of reading.
+-- What the reader of a label comes to, in terms of the rules of reading. Nothing here has to be believed.
 use Prim.Native.Nat.{ℕ, _+_, _≤_, _<_}
 use mathlib.Core.Path.{_≡_}
 use lib.ListN.{length, drop}

@@ -1,4 +1,5 @@
 -- What the readers of the parts of a text come to, in terms of the rules of reading: what is read, up to where, and what is written for it.
+-- Nothing here has to be believed: call 2's promise is stated without it, and proved from it.
 use Prim.Native.Nat.{ℕ, suc, _+_, _-_, _*_, _≤_, _<_}
 use mathlib.Core.Path.{_≡_}
 use mathlib.Core.List.{[], _∷_, _++_, List·Memᴰ}
@@ -23,6 +24,7 @@ pub record Line : Type 1 where
   pub written : ℕ → Thing → Entries
   pub spare : ℕ
 
+-- the same, by its parts
 abbrev pub asLine : {A : Type 0} → (ℕ → Bytes → Result A → Type 0) → (ℕ → A → Entries) → ℕ → Line
 asLine {A} reads written spare = record { Thing = A; reads = reads; written = written; spare = spare }
 
@@ -64,6 +66,7 @@ pub record Ready (text : Bytes) (at : ℕ) (table : Bytes) (n : ℕ) : Type 0 wh
 abbrev pub mostOpen : ℕ
 mostOpen = 32
 
+-- The lines of the grammar. A path is used as a filter by one more entry, so it keeps one spare.
 abbrev pub paths : Line
 paths = asLine (PathReads mostOpen) pathEntries 1
 
@@ -86,24 +89,28 @@ Joined chain.Sequence = Path
 Joined chain.Filter = Filter
 Joined chain.Conjunction = Filter
 
+-- what is written for them
 abbrev pub joinedEntries : (c : Chain) → ℕ → Joined c → Entries
 joinedEntries chain.Path = pathEntries
 joinedEntries chain.Sequence = pathEntries
 joinedEntries chain.Filter = filterEntries
 joinedEntries chain.Conjunction = filterEntries
 
+-- and spared
 abbrev pub joinedSpare : Chain → ℕ
 joinedSpare chain.Path = 1
 joinedSpare chain.Sequence = 1
 joinedSpare chain.Filter = 0
 joinedSpare chain.Conjunction = 0
 
+-- the rules that read them
 abbrev pub ChainReads : (c : Chain) → ℕ → Bytes → Result (Joined c) → Type 0
 ChainReads chain.Path = PathReads mostOpen
 ChainReads chain.Sequence = SequenceReads mostOpen
 ChainReads chain.Filter = FilterReads mostOpen
 ChainReads chain.Conjunction = ConjunctionReads mostOpen
 
+-- the rules that read their links
 abbrev pub LinkReads : (c : Chain) → ℕ → Bytes → Result (Joined c) → Type 0
 LinkReads chain.Path = SequenceReads mostOpen
 LinkReads chain.Sequence = ItemReads mostOpen

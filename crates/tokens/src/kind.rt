@@ -1,4 +1,4 @@
-// The numbers of the kinds, and the bytes that stand for them in a text.
+// The numbers of the kinds in the list of kinds, and the bytes that stand for them in a text.
 ghost use mathlib.Core.Path.{_≡_};
 ghost use Rattle.tokens.specs.Reading.{joining, joinedKind, closingByte, AxisOf};
 
@@ -66,6 +66,7 @@ pub fn kind_of(chain: Chain) -> u8
     }
 }
 
+// [ and ] around a filter, ( and ) around a path, { and } around a filter.
 pub enum Bracket {
     Square,
     Round,

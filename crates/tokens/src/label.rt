@@ -25,16 +25,16 @@ pub enum Label {
 fn digit(byte: u8) -> u8
     ensures { λ r. ⌜ DigitOf byte r ⌝ }
 {
-    if byte < 48 {
+    if byte < b'0' {
         return 10;
     }
-    if byte > 57 {
+    if byte > b'9' {
         return 10;
     }
-    byte - 48
+    byte - b'0'
 }
 
-// 1 to 64 in decimal, no leading zero: as many digits as make such a label.
+// "label: 1 to 64 in decimal, no leading zero": as many digits as make one.
 fn read_label(text: &[u8], at: usize) -> Label
     requires { ⌜ at ≤ length (now text) ⌝ }
     ensures { λ r. ⌜ LabelAt (now (text .entry)) at r ⌝ }

@@ -3,39 +3,28 @@ use Rattle.reader.proofs.Parsing.{stopped-parses, longer-parses, whole-
 use borrow.Author.Needs.{needs}
 use Rattle.reader.proofs.read_whole.Statement.{statement}
 use Rattle.reader.proofs.read_whole.Tie as tie
-use Rattle.reader.proofs.read_whole.Reads as reads
-use Rattle.reader.proofs.read_whole.Lts as lts
-use Rattle.parser.proofs.path.Reads as path-reads
 
--- src/lib.rt:32:9
 path-requires : tie.Need-path-requires
 path-requires c κs = search needs
 
--- src/lib.rt:33:23
 enum-known-parsed : tie.Need-enum-known-parsed
 enum-known-parsed c = search needs
 
--- src/lib.rt:34:9
 same-length : tie.Need-same-length
 same-length c = search needs
 
--- src/lib.rt:34:9
 returns : tie.Need-returns
 returns c = stopped-parses (c .before .before .before .before .before .before .before .pre .0) (c .match .keys2) (c .before .before .before .path .ensures)
 
--- src/lib.rt:37:9
 same-length-2 : tie.Need-same-length-2
 same-length-2 c = search needs
 
--- src/lib.rt:37:9
 returns-2 : tie.Need-returns-2
 returns-2 c = longer-parses (c .before .before .before .before .before .before .before .before .before .before .pre .0) (c .before .before .parsed .given .1) (c .if1 .taken) (c .before .before .before .before .before .before .path .ensures)
 
--- src/lib.rt:28:1
 same-length-3 : tie.Need-same-length-3
 same-length-3 c = search needs
 
--- src/lib.rt:28:1
 returns-3 : tie.Need-returns-3
 returns-3 c = whole-parses (c .before .before .before .before .before .before .before .before .before .before .pre .0) (c .before .before .parsed .given .1) (c .if1 .left) (c .before .before .before .before .before .before .before .before .before .before .pre .1) (c .before .before .before .before .before .before .path .kept .1 .1 .1 .0) (c .before .before .before .before .before .before .path .ensures)
 

@@ -3,41 +3,28 @@ use Rattle.reader.proofs.Answering.{room-enough, written-out, refused-o
 use borrow.Author.Needs.{needs}
 use Rattle.reader.proofs.write_out.Statement.{statement}
 use Rattle.reader.proofs.write_out.Tie as tie
-use Rattle.reader.proofs.write_out.Reads as reads
-use Rattle.reader.proofs.write_out.Lts as lts
-use Rattle.bytes.proofs.copy.Reads as copy-reads
-use Rattle.reply.proofs.refuse.Reads as refuse-reads
-use Rattle.tables.proofs.check_query.Reads as check-query-reads
 
--- src/lib.rt:47:9
 check-query-requires : tie.Need-check-query-requires
 check-query-requires c κs = search needs
 
--- src/lib.rt:48:22
 enum-known-checked : tie.Need-enum-known-checked
 enum-known-checked c = search needs
 
--- src/lib.rt:49:23
 enum-told : tie.Need-enum-told
 enum-told c = search needs
 
--- src/lib.rt:49:9
 refuse-requires : tie.Need-refuse-requires
 refuse-requires c κs = search needs
 
--- src/lib.rt:49:9
 returns : tie.Need-returns
 returns c = refused-out _ (c .before .before .before .check-query .result) (c .before .before .match .keys2) (c .before .before .before .check-query .ensures) (c .refuse .ensures)
 
--- src/lib.rt:51:5
 copy-requires : tie.Need-copy-requires
 copy-requires c κs = room-enough (c .before .before .before .before .before .before .before .args .room .now) (c .before .before .checked .given .1) (c .before .before .before .before .check-query .ensures) (c .before .before .before .before .before .before .before .pre)
 
--- src/lib.rt:43:1
 same-length : tie.Need-same-length
 same-length c = search needs
 
--- src/lib.rt:43:1
 returns-2 : tie.Need-returns-2
 returns-2 c = written-out _ (c .before .before .before .before .before .checked .given .1) (c .before .before .before .before .before .before .before .check-query .ensures) (c .before .before .before .before .before .before .before .before .before .before .pre) (c .before .before .copy .ensures .1)
 

@@ -1,7 +1,6 @@
 -- `bracketed` meets its contract, as a member of the cycle of calls. Assumes nothing.
 use Prim.Native.Nat.{ℕ}
 use borrow.Author.Needs.{needs}
-use native.Mathlib.Omega.{arith}
 use Rattle.tokens.proofs.Following.{place-in-text}
 use Rattle.tokens.proofs.Enclosed.{bracket-too-deep, bracket-follows, path-inside, filter-inside}
 use Rattle.parser.proofs.+atom+bracketed+chained+filter+item+link+path+term.Proof.Measures.{bracketed-at, path-below, filter-below}

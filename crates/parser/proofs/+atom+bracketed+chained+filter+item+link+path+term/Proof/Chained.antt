@@ -5,7 +5,7 @@ use lib.ListN.{length, getD}
 use borrow.Author.Needs.{needs}
 use native.Mathlib.Omega.{arith}
 use Rattle.reply.specs.Bytes.{Bytes}
-use Rattle.tokens.specs.Reading.{chains, joining, joinedSpare}
+use Rattle.tokens.specs.Reading.{chains, joining}
 use Rattle.tokens.proofs.Places.{inside}
 use Rattle.tokens.proofs.Following.{got-stands, ready-after}
 use Rattle.tokens.proofs.Chains.{GoesOn, chaining, Going, started, not-started, ended, turned, not-turned}
@@ -30,37 +30,60 @@ abbrev pub μ-loop : lts.MeasureT-loop
 μ-loop text at depth table₀ count chain next₀ written₀ table next written = length text - next
 
 module _ (t : ℕ) where
-  -- the first link is read
-  first-going : (c : lts.After-known-told (claims t) (chained-at t) chained.Post Inv-loop μ-loop)
-      → Going (chains (c .before .before .before .before .before .before .before .before .before .args .chain)) (GoesOn (c .before .before .before .before .before .before .before .before .before .args .chain) (c .before .before .before .before .before .before .before .before .before .args .depth)) (c .before .before .before .before .before .before .before .before .before .args .depth) (c .before .before .before .before .before .before .before .before .before .args .text .now) (c .before .before .before .before .before .before .before .before .before .args .at) (c .before .before .before .before .before .before .before .before .before .args .table .now) (c .before .before .before .before .before .before .before .before .before .args .count)
-      (c .before .first .given .0 .0) (c .before .first .given .0 .1 .0) (c .before .before .before .before .before .link .last .1 .1 .1 .0)
-  first-going c = started (chaining (c .before .before .before .before .before .before .before .before .before .args .chain)) (joinedSpare (c .before .before .before .before .before .before .before .before .before .args .chain)) (c .before .first .given .1) (c .before .before .before .before .before .link .ensures)
+  -- Places on the way: the function's beginning, the loop's head, a turn of it, and behind one more link.
+  abbrev Beginning : Type 0
+  Beginning = lts.Start (claims t) (chained-at t) chained.Post Inv-loop μ-loop
 
-  -- at the loop's head a chain is read, and what follows may add to it
-  going : (c : lts.At-loop (claims t) (chained-at t) chained.Post Inv-loop μ-loop)
-      → Going (chains (c .before .before .before .before .before .before .before .before .before .before .args .chain)) (GoesOn (c .before .before .before .before .before .before .before .before .before .before .args .chain) (c .before .before .before .before .before .before .before .before .before .before .args .depth)) (c .before .before .before .before .before .before .before .before .before .before .args .depth) (c .before .before .before .before .before .before .before .before .before .before .args .text .now) (c .before .before .before .before .before .before .before .before .before .before .args .at) (c .before .before .before .before .before .before .before .before .before .before .args .table .now) (c .before .before .before .before .before .before .before .before .before .before .args .count)
-      (c .loop .next) (c .loop .written) (c .loop .table)
-  going c = c .loop .inv .1 (c .before .before .before .before .before .before .before .before .before .before .args .table .now) (first-going (c .before))
+  abbrev Head : Type 0
+  Head = lts.At-loop (claims t) (chained-at t) chained.Post Inv-loop μ-loop
 
-  -- the joining byte is the next
-  joint-next : (c : lts.Then1 (claims t) (chained-at t) chained.Post Inv-loop μ-loop) → getD (c .before .before .before .before .before .before .before .before .before .before .before .before .before .args .text .now) (c .before .before .before .loop .next) 0 ≡ joining (c .before .before .before .before .before .before .before .before .before .before .before .before .before .args .chain)
+  abbrev Turn : Type 0
+  Turn = lts.Then1 (claims t) (chained-at t) chained.Post Inv-loop μ-loop
+
+  abbrev More : Type 0
+  More = lts.After-more (claims t) (chained-at t) chained.Post Inv-loop μ-loop
+
+  abbrev beginning : Head → Beginning
+  beginning c = c .before .before .before .before .before .before .before .before .before .before
+
+  abbrev head : Turn → Head
+  head c = c .before .before .before
+
+  abbrev turn : More → Turn
+  turn c = c .before .before .before .before .before .before
+
+  -- a chain is read, and what follows may add to it
+  abbrev Reading : Beginning → ℕ → ℕ → Bytes → Type 0
+  Reading s = Going (chains (s .args .chain)) (GoesOn (s .args .chain) (s .args .depth)) (s .args .depth) (s .args .text .now) (s .args .at) (s .args .table .now) (s .args .count)
+
+  -- so it is at the loop's head: the first link is read, and each turn goes on
+  going : (c : Head) → Reading (beginning c) (c .loop .next) (c .loop .written) (c .loop .table)
+  going c = c .loop .inv .1 (beginning c .args .table .now) (started (chaining (beginning c .args .chain)) (c .before .before .first .given .1) (c .before .before .before .before .before .before .link .ensures))
+
+  -- the table keeps its length
+  kept-length : (c : Head) → length (c .loop .table) ≡ length (beginning c .args .table .now)
+  kept-length c = c .loop .inv .0 ∙ c .before .before .before .before .before .before .link .kept .1 .1 .1 .0
+
+  -- in a turn the joining byte is the next
+  joint-next : (c : Turn) → getD (beginning (head c) .args .text .now) (head c .loop .next) 0 ≡ joining (beginning (head c) .args .chain)
   joint-next c = sym (c .before .before .byte-at .ensures) ∙ c .if1 .taken ∙ c .before .joint .ensures
 
   -- it is a byte of the text
-  in-text : (c : lts.Then1 (claims t) (chained-at t) chained.Post Inv-loop μ-loop) → c .before .before .before .loop .next < length (c .before .before .before .before .before .before .before .before .before .before .before .before .before .args .text .now)
-  in-text c = inside (c .before .before .before .before .before .before .before .before .before .before .before .before .before .args .text .now) (c .before .before .before .loop .next) (subst (λ (b : ℕ). 0 < b) (sym (joint-next c)) (chaining (c .before .before .before .before .before .before .before .before .before .before .before .before .before .args .chain) .seen))
-
-  -- the table keeps its length
-  kept-length : (c : lts.At-loop (claims t) (chained-at t) chained.Post Inv-loop μ-loop) → length (c .loop .table) ≡ length (c .before .before .before .before .before .before .before .before .before .before .args .table .now)
-  kept-length c = c .loop .inv .0 ∙ c .before .before .before .before .before .before .link .kept .1 .1 .1 .0
+  in-text : (c : Turn) → head c .loop .next < length (beginning (head c) .args .text .now)
+  in-text c =
+      let s = beginning (head c) in
+      inside (s .args .text .now) (head c .loop .next) (subst (λ (b : ℕ). 0 < b) (sym (joint-next c)) (chaining (s .args .chain) .seen))
 
   -- behind one more link there is room for the entry that joins it
-  one-more : (c : lts.After-more (claims t) (chained-at t) chained.Post Inv-loop μ-loop)
-      → (c .before .before .before .before .before .before .before .before .before .loop .next + 1 < c .more .given .0 .0) × (c .more .given .0 .0 ≤ length (c .before .before .before .before .before .before .before .before .before .before .before .before .before .before .before .before .before .before .before .args .text .now)) × (c .before .before .before .before .before .before .before .before .before .loop .written < c .more .given .0 .1 .0) × (6 * (c .more .given .0 .1 .0 + 1) ≤ length (c .before .before .before .before .before .before .before .before .before .before .before .before .before .before .before .before .before .before .before .args .table .now))
+  one-more : (c : More)
+      → (head (turn c) .loop .next + 1 < c .more .given .0 .0)
+      × (c .more .given .0 .0 ≤ length (beginning (head (turn c)) .args .text .now))
+      × (head (turn c) .loop .written < c .more .given .0 .1 .0)
+      × (6 * (c .more .given .0 .1 .0 + 1) ≤ length (beginning (head (turn c)) .args .table .now))
   one-more c =
-      let a = going (c .before .before .before .before .before .before .before .before .before) .stands in
+      let a = going (head (turn c)) .stands in
       let b = got-stands (c .more .given .1) (c .before .before .before .before .link2 .ensures) .2 in
-      let d = c .before .before .before .before .before .before .before .before .before .before .before .before .before .before .before .before .before .before .before .pre .1 .room in
+      let room = beginning (head (turn c)) .pre .1 .room in
       let f = a .further in
       let g = a .few in
       let h = b .further in
@@ -77,7 +100,7 @@ module _ (t : ℕ) where
   same-length c = search needs
 
   pub returns : lts.Need-returns (claims t) (chained-at t) chained.Post Inv-loop μ-loop
-  returns c = not-started (chaining (c .before .before .before .before .before .before .before .args .chain)) (joinedSpare (c .before .before .before .before .before .before .before .args .chain)) (c .match .keys2) (c .before .before .before .link .ensures)
+  returns c = not-started (chaining (c .before .before .before .before .before .before .before .args .chain)) (c .match .keys2) (c .before .before .before .link .ensures)
 
   pub loop-holds : lts.Need-loop-holds (claims t) (chained-at t) chained.Post Inv-loop μ-loop
   loop-holds c = (refl, λ before g. g)
@@ -89,51 +112,58 @@ module _ (t : ℕ) where
   joint-requires c κs = search needs
 
   pub add-link : lts.Need-add-link (claims t) (chained-at t) chained.Post Inv-loop μ-loop
-  add-link c = omega (arith, in-text c, c .before .before .before .before .before .before .before .before .before .before .before .before .before .good .0)
+  add-link c = omega (arith, in-text c, beginning (head c) .good .0)
 
   pub link-requires-2 : lts.Need-link-requires-2 (claims t) (chained-at t) chained.Post Inv-loop μ-loop
   link-requires-2 c κs =
-      let l = in-text (c .before) in
-      let g = going (c .before .before .before .before) .stands in
+      let s = beginning (head (c .before)) in
+      let g = going (head (c .before)) .stands in
       let f = g .further in
-      let m = c .before .before .before .before .before .before .before .before .before .before .before .before .before .before .pre .0 in
-      (omega arith, ready-after (c .before .before .before .before .before .before .before .before .before .before .before .before .before .before .pre .1) g (kept-length (c .before .before .before .before)) l)
+      let l = in-text (c .before) in
+      let m = s .pre .0 in
+      (omega arith, ready-after (s .pre .1) g (kept-length (head (c .before))) l)
 
   pub enum-known-more : lts.Need-enum-known-more (claims t) (chained-at t) chained.Post Inv-loop μ-loop
   enum-known-more c = search needs
 
   pub same-length-2 : lts.Need-same-length-2 (claims t) (chained-at t) chained.Post Inv-loop μ-loop
-  same-length-2 c = c .before .before .before .link2 .kept .1 .1 .1 .0 ∙ kept-length (c .before .before .before .before .before .before .before .before)
+  same-length-2 c = c .before .before .before .link2 .kept .1 .1 .1 .0 ∙ kept-length (head (c .before .before .before .before .before))
 
   pub returns-2 : lts.Need-returns-2 (claims t) (chained-at t) chained.Post Inv-loop μ-loop
-  returns-2 c = not-turned (chaining (c .before .before .before .before .before .before .before .before .before .before .before .before .before .before .before .before .before .before .args .chain)) (joinedSpare (c .before .before .before .before .before .before .before .before .before .before .before .before .before .before .before .before .before .before .args .chain)) (going (c .before .before .before .before .before .before .before .before)) (joint-next (c .before .before .before .before .before)) (c .match2 .keys2) (c .before .before .before .link2 .ensures)
+  returns-2 c =
+      let own = c .before .before .before .before .before in
+      not-turned (chaining (beginning (head own) .args .chain)) (going (head own)) (joint-next own) (c .match2 .keys2) (c .before .before .before .link2 .ensures)
 
   pub kind-of-requires : lts.Need-kind-of-requires (claims t) (chained-at t) chained.Post Inv-loop μ-loop
   kind-of-requires c κs = search needs
 
   pub sub-put : lts.Need-sub-put (claims t) (chained-at t) chained.Post Inv-loop μ-loop
-  sub-put c = omega (arith, going (c .before .before .before .before .before .before .before .before .before .before .before .before) .stands .some)
+  sub-put c = omega (arith, going (head (turn (c .before .before .before))) .stands .some)
 
   pub sub-put-2 : lts.Need-sub-put-2 (claims t) (chained-at t) chained.Post Inv-loop μ-loop
   sub-put-2 c = omega (arith, one-more (c .before .before .before) .2)
 
   pub put-requires : lts.Need-put-requires (claims t) (chained-at t) chained.Post Inv-loop μ-loop
-  put-requires c κs = omega (arith, one-more (c .before .before .before) .3, c .before .before .before .before .before .before .before .link2 .kept .1 .1 .1 .0, kept-length (c .before .before .before .before .before .before .before .before .before .before .before .before))
+  put-requires c κs = omega (arith, one-more (c .before .before .before) .3, c .before .before .before .before .before .before .before .link2 .kept .1 .1 .1 .0, kept-length (head (turn (c .before .before .before))))
 
   pub add-written : lts.Need-add-written (claims t) (chained-at t) chained.Post Inv-loop μ-loop
-  add-written c = omega (arith, one-more (c .before .before .before .before .before .before) .3, c .before .before .before .before .before .before .before .before .before .before .before .before .before .before .before .before .before .before .before .before .before .before .before .before .before .good .1)
+  add-written c = omega (arith, one-more (c .before .before .before .before .before .before) .3, beginning (head (turn (c .before .before .before .before .before .before))) .good .1)
 
   pub loop-less : lts.Need-loop-less (claims t) (chained-at t) chained.Post Inv-loop μ-loop
   loop-less c = omega (arith, one-more (c .before .before .before .before .before .before) .0, one-more (c .before .before .before .before .before .before) .1)
 
   pub loop-again : lts.Need-loop-again (claims t) (chained-at t) chained.Post Inv-loop μ-loop
-  loop-again c = (
-    c .before .before .put .kept .0 ∙ c .before .before .before .before .before .before .before .before .before .before .link2 .kept .1 .1 .1 .0 ∙ c .before .before .before .before .before .before .before .before .before .before .before .before .before .before .before .loop .inv .0,
-    λ before g. turned (chaining (c .before .before .before .before .before .before .before .before .before .before .before .before .before .before .before .before .before .before .before .before .before .before .before .before .before .args .chain)) (joinedSpare (c .before .before .before .before .before .before .before .before .before .before .before .before .before .before .before .before .before .before .before .before .before .before .before .before .before .args .chain)) (c .before .before .before .before .before .before .before .before .before .before .before .before .before .before .before .loop .inv .1 before g) (joint-next (c .before .before .before .before .before .before .before .before .before .before .before .before)) (c .before .before .before .before .before .before .more .given .1) (c .before .before .before .before .before .before .before .before .before .before .link2 .ensures) (c .before .before .before .kind-of .ensures) (c .before .before .put .ensures),
-  )
+  loop-again c =
+      let more = c .before .before .before .before .before .before in
+      let own = turn more in (
+        c .before .before .put .kept .0 ∙ c .before .before .before .before .before .before .before .before .before .before .link2 .kept .1 .1 .1 .0 ∙ head own .loop .inv .0,
+        λ before g. turned (chaining (beginning (head own) .args .chain)) (head own .loop .inv .1 before g) (joint-next own) (more .more .given .1) (c .before .before .before .before .before .before .before .before .before .before .link2 .ensures) (c .before .before .before .kind-of .ensures) (c .before .before .put .ensures),
+      )
 
   pub same-length-3 : lts.Need-same-length-3 (claims t) (chained-at t) chained.Post Inv-loop μ-loop
   same-length-3 c = kept-length (c .before .before .before)
 
   pub returns-3 : lts.Need-returns-3 (claims t) (chained-at t) chained.Post Inv-loop μ-loop
-  returns-3 c = ended (chaining (c .before .before .before .before .before .before .before .before .before .before .before .before .before .args .chain)) (joinedSpare (c .before .before .before .before .before .before .before .before .before .before .before .before .before .args .chain)) (going (c .before .before .before)) (λ e. c .if1 .left (c .before .before .byte-at .ensures ∙ e ∙ sym (c .before .joint .ensures)))
+  returns-3 c =
+      let there = c .before .before .before in
+      ended (chaining (beginning there .args .chain)) (going there) (λ e. c .if1 .left (c .before .before .byte-at .ensures ∙ e ∙ sym (c .before .joint .ensures)))

@@ -1,7 +1,6 @@
 -- `filter` meets its contract, as a member of the cycle of calls. Assumes nothing.
 use Prim.Native.Nat.{ℕ}
 use borrow.Author.Needs.{needs}
-use native.Mathlib.Omega.{arith}
 use Rattle.parser.proofs.+atom+bracketed+chained+filter+item+link+path+term.Proof.Measures.{filter-at, chained-below}
 use Rattle.parser.proofs.+atom+bracketed+chained+filter+item+link+path+term.Lts-filter as lts
 use Rattle.parser.proofs.filter.Reads as filter

@@ -29,36 +29,50 @@ abbrev pub μ-loop : lts.MeasureT-loop
 μ-loop text at depth table₀ count next₀ written₀ table next written = length text - next
 
 module _ (t : ℕ) where
-  -- the atom is read
-  atom-going : (c : lts.After-known-told (claims t) (item-at t) item.Post Inv-loop μ-loop)
-      → Going items StarsRead (c .before .before .before .before .before .before .before .before .before .args .depth) (c .before .before .before .before .before .before .before .before .before .args .text .now) (c .before .before .before .before .before .before .before .before .before .args .at) (c .before .before .before .before .before .before .before .before .before .args .table .now) (c .before .before .before .before .before .before .before .before .before .args .count)
-      (c .before .first .given .0 .0) (c .before .first .given .0 .1 .0) (c .before .before .before .before .before .atom .last .1 .1 .1 .0)
-  atom-going c = atom-read (c .before .first .given .1) (c .before .before .before .before .before .atom .ensures)
+  -- Places on the way: the function's beginning, the loop's head, and a turn of it.
+  abbrev Beginning : Type 0
+  Beginning = lts.Start (claims t) (item-at t) item.Post Inv-loop μ-loop
 
-  -- at the loop's head an atom with some stars is read
-  going : (c : lts.At-loop (claims t) (item-at t) item.Post Inv-loop μ-loop)
-      → Going items StarsRead (c .before .before .before .before .before .before .before .before .before .before .args .depth) (c .before .before .before .before .before .before .before .before .before .before .args .text .now) (c .before .before .before .before .before .before .before .before .before .before .args .at) (c .before .before .before .before .before .before .before .before .before .before .args .table .now) (c .before .before .before .before .before .before .before .before .before .before .args .count) (c .loop .next) (c .loop .written) (c .loop .table)
-  going c = c .loop .inv .1 (c .before .before .before .before .before .before .before .before .before .before .args .table .now) (atom-going (c .before))
+  abbrev Head : Type 0
+  Head = lts.At-loop (claims t) (item-at t) item.Post Inv-loop μ-loop
 
-  -- a star is the next byte
-  star-next : (c : lts.Then1 (claims t) (item-at t) item.Post Inv-loop μ-loop) → getD (c .before .before .before .before .before .before .before .before .before .before .before .before .args .text .now) (c .before .before .loop .next) 0 ≡ 42
-  star-next c = sym (c .before .byte-at .ensures) ∙ c .if1 .taken
+  abbrev Turn : Type 0
+  Turn = lts.Then1 (claims t) (item-at t) item.Post Inv-loop μ-loop
+
+  abbrev beginning : Head → Beginning
+  beginning c = c .before .before .before .before .before .before .before .before .before .before
+
+  abbrev head : Turn → Head
+  head c = c .before .before
+
+  -- an atom with some stars is read, and what follows may add to it
+  abbrev Reading : Beginning → ℕ → ℕ → Bytes → Type 0
+  Reading s = Going items StarsRead (s .args .depth) (s .args .text .now) (s .args .at) (s .args .table .now) (s .args .count)
+
+  -- so it is at the loop's head: the atom is read, and each turn goes on
+  going : (c : Head) → Reading (beginning c) (c .loop .next) (c .loop .written) (c .loop .table)
+  going c = c .loop .inv .1 (beginning c .args .table .now) (atom-read (c .before .before .first .given .1) (c .before .before .before .before .before .before .atom .ensures))
 
   -- the table keeps its length
-  kept-length : (c : lts.At-loop (claims t) (item-at t) item.Post Inv-loop μ-loop) → length (c .loop .table) ≡ length (c .before .before .before .before .before .before .before .before .before .before .args .table .now)
+  kept-length : (c : Head) → length (c .loop .table) ≡ length (beginning c .args .table .now)
   kept-length c = c .loop .inv .0 ∙ c .before .before .before .before .before .before .atom .kept .1 .1 .1 .0
 
-  -- the star is a byte of the text, and there is room for its entry
-  one-more : (c : lts.Then1 (claims t) (item-at t) item.Post Inv-loop μ-loop)
-      → (c .before .before .loop .next < length (c .before .before .before .before .before .before .before .before .before .before .before .before .args .text .now)) × (1 ≤ c .before .before .loop .written) × (6 * (c .before .before .loop .written + 1) ≤ length (c .before .before .before .before .before .before .before .before .before .before .before .before .args .table .now))
+  -- in a turn a star is the next byte
+  star-next : (c : Turn) → getD (beginning (head c) .args .text .now) (head c .loop .next) 0 ≡ 42
+  star-next c = sym (c .before .byte-at .ensures) ∙ c .if1 .taken
+
+  -- it is a byte of the text, and there is room for its entry
+  one-more : (c : Turn)
+      → (head c .loop .next < length (beginning (head c) .args .text .now)) × (1 ≤ head c .loop .written) × (6 * (head c .loop .written + 1) ≤ length (beginning (head c) .args .table .now))
   one-more c =
+      let s = beginning (head c) in
       let e = star-next c in
-      let l : c .before .before .loop .next < length (c .before .before .before .before .before .before .before .before .before .before .before .before .args .text .now) = inside (c .before .before .before .before .before .before .before .before .before .before .before .before .args .text .now) (c .before .before .loop .next) (omega arith) in
-      let a = going (c .before .before) .stands in
-      let d = c .before .before .before .before .before .before .before .before .before .before .before .before .pre .1 .room in
+      let l : head c .loop .next < length (s .args .text .now) = inside (s .args .text .now) (head c .loop .next) (omega arith) in
+      let a = going (head c) .stands in
+      let room = s .pre .1 .room in
       let f = a .further in
       let g = a .few in
-      let s = a .some in
+      let h = a .some in
       (l, omega arith, omega arith)
 
   pub atom-requires : lts.Need-atom-requires (claims t) (item-at t) item.Post Inv-loop μ-loop
@@ -83,19 +97,21 @@ module _ (t : ℕ) where
   sub-put c = one-more (c .before) .1
 
   pub put-requires : lts.Need-put-requires (claims t) (item-at t) item.Post Inv-loop μ-loop
-  put-requires c κs = omega (arith, one-more (c .before) .2, kept-length (c .before .before .before))
+  put-requires c κs = omega (arith, one-more (c .before) .2, kept-length (head (c .before)))
 
   pub add-next : lts.Need-add-next (claims t) (item-at t) item.Post Inv-loop μ-loop
-  add-next c = omega (arith, one-more (c .before .before .before .before) .0, c .before .before .before .before .before .before .before .before .before .before .before .before .before .before .before .before .good .0)
+  add-next c = omega (arith, one-more (c .before .before .before .before) .0, beginning (head (c .before .before .before .before)) .good .0)
 
   pub add-written : lts.Need-add-written (claims t) (item-at t) item.Post Inv-loop μ-loop
-  add-written c = omega (arith, one-more (c .before .before .before .before) .2, c .before .before .before .before .before .before .before .before .before .before .before .before .before .before .before .before .good .1)
+  add-written c = omega (arith, one-more (c .before .before .before .before) .2, beginning (head (c .before .before .before .before)) .good .1)
 
   pub loop-less : lts.Need-loop-less (claims t) (item-at t) item.Post Inv-loop μ-loop
   loop-less c = omega (arith, one-more (c .before .before .before .before) .0)
 
   pub loop-again : lts.Need-loop-again (claims t) (item-at t) item.Post Inv-loop μ-loop
-  loop-again c = (c .before .before .put .kept .0 ∙ c .before .before .before .before .before .before .loop .inv .0, λ before g. starred (c .before .before .before .before .before .before .loop .inv .1 before g) (star-next (c .before .before .before .before)) (c .before .before .put .ensures))
+  loop-again c =
+      let own = c .before .before .before .before in
+      (c .before .before .put .kept .0 ∙ head own .loop .inv .0, λ before g. starred (head own .loop .inv .1 before g) (star-next own) (c .before .before .put .ensures))
 
   pub same-length-2 : lts.Need-same-length-2 (claims t) (item-at t) item.Post Inv-loop μ-loop
   same-length-2 c = kept-length (c .before .before)

@@ -1,7 +1,6 @@
 -- `path` meets its contract, as a member of the cycle of calls. Assumes nothing.
 use Prim.Native.Nat.{ℕ}
 use borrow.Author.Needs.{needs}
-use native.Mathlib.Omega.{arith}
 use Rattle.parser.proofs.+atom+bracketed+chained+filter+item+link+path+term.Proof.Measures.{path-at, chained-below}
 use Rattle.parser.proofs.+atom+bracketed+chained+filter+item+link+path+term.Lts-path as lts
 use Rattle.parser.proofs.path.Reads as path

@@ -6,31 +6,22 @@ use Rattle.tokens.proofs.Answers.{failed, closed-behind, open-behind, p
 use borrow.Author.Needs.{needs}
 use Rattle.tokens.proofs.answer.closed.Statement.{statement}
 use Rattle.tokens.proofs.answer.closed.Tie as tie
-use Rattle.tokens.proofs.answer.closed.Reads as reads
-use Rattle.tokens.proofs.answer.closed.Lts as lts
-use Rattle.tokens.proofs.label.byte_at.Reads as byte-at-reads
 
--- src/parse.rt:189:23
 enum-known-inner : tie.Need-enum-known-inner
 enum-known-inner c = search needs
 
--- src/parse.rt:190:9
 returns : tie.Need-returns
 returns c = passed-by (failed (c .before .before .args .inner) (c .match .keys2) .2)
 
--- src/parse.rt:192:8
 byte-at-requires : tie.Need-byte-at-requires
 byte-at-requires c κs = search needs
 
--- src/parse.rt:193:34
 add-t8 : tie.Need-add-t8
 add-t8 c = omega (arith, place-inside _ _ _ (c .before .before .before .inner .given .1) (c .before .before .before .before .before .before .pre))
 
--- src/parse.rt:193:9
 returns-2 : tie.Need-returns-2
 returns-2 c = closed-behind _ _ _ (c .before .before .before .inner .given .1) (sym (c .before .byte-at .ensures) ∙ c .if1 .taken)
 
--- src/parse.rt:185:1
 returns-3 : tie.Need-returns-3
 returns-3 c = open-behind _ _ _ (c .before .before .before .inner .given .1) (λ e. c .if1 .left (c .before .byte-at .ensures ∙ e))
 

@@ -1,5 +1,5 @@
 -- `behind` meets its contract. Assumes nothing.
-use Prim.Native.Nat.{ℕ, _+_, _*_, _≤_}
+use Prim.Native.Nat.{_+_, _*_, _≤_}
 use lib.ListN.{length}
 use borrow.Author.Needs.{needs}
 use native.Mathlib.Omega.{arith}
@@ -7,39 +7,29 @@ use Rattle.tokens.specs.Reading.{passed-on}
 use Rattle.tokens.proofs.Answers.{failed, room-behind, written-behind}
 use Rattle.tokens.proofs.entry.behind.Statement.{statement}
 use Rattle.tokens.proofs.entry.behind.Tie as tie
-use Rattle.tokens.proofs.entry.behind.Reads as reads
-use Rattle.tokens.proofs.entry.behind.Lts as lts
-use Rattle.tokens.proofs.entry.put.Reads as put-reads
 
 -- what was read has an entry, and there is room behind it
 room : (c : tie.After-operand) → (1 ≤ c .operand .given .0 .1 .0) × (6 * (c .operand .given .0 .1 .0 + 1) ≤ length (c .before .before .before .args .table .now))
 room c = room-behind _ _ _ (c .operand .given .1) _ (c .before .before .before .pre)
 
--- src/entry.rt:40:23
 enum-known-operand : tie.Need-enum-known-operand
 enum-known-operand c = search needs
 
--- src/entry.rt:41:9
 returns : tie.Need-returns
 returns c = passed-on (failed (c .before .before .args .operand) (c .match .keys2) .2)
 
--- src/entry.rt:43:32
 sub-put : tie.Need-sub-put
 sub-put c = room (c .before .before) .0
 
--- src/entry.rt:43:5
 put-requires : tie.Need-put-requires
 put-requires c κs = room (c .before .before) .1
 
--- src/entry.rt:46:16
 add-t9 : tie.Need-add-t9
 add-t9 c = let r = room (c .before .before .before .before .before) in omega arith
 
--- src/entry.rt:36:1
 same-length : tie.Need-same-length
 same-length c = search needs
 
--- src/entry.rt:36:1
 returns-2 : tie.Need-returns-2
 returns-2 c = written-behind _ _ _ (c .before .before .before .before .before .operand .given .1) (c .before .before .put .ensures)
 

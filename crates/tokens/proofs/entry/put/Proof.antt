@@ -5,78 +5,58 @@ use lib.ListN.{length-set}
 use Rattle.tokens.proofs.Stores.{stored}
 use Rattle.tokens.proofs.entry.put.Statement.{statement}
 use Rattle.tokens.proofs.entry.put.Tie as tie
-use Rattle.tokens.proofs.entry.put.Reads as reads
-use Rattle.tokens.proofs.entry.put.Lts as lts
 
--- src/entry.rt:14:14
 mul-at : tie.Need-mul-at
 mul-at c = search needs
 
--- src/entry.rt:15:5
 slice-write-table : tie.Need-slice-write-table
 slice-write-table c = search needs
 
--- src/entry.rt:16:11
 add-table : tie.Need-add-table
 add-table c = search needs
 
--- src/entry.rt:16:5
 slice-write-table-2 : tie.Need-slice-write-table-2
 slice-write-table-2 c = simp length-set (omega arith)
 
--- src/entry.rt:17:21
 cast-table : tie.Need-cast-table
 cast-table c = search needs
 
--- src/entry.rt:17:11
 add-table-2 : tie.Need-add-table-2
 add-table-2 c = search needs
 
--- src/entry.rt:17:5
 slice-write-table-3 : tie.Need-slice-write-table-3
 slice-write-table-3 c = simp length-set (omega arith)
 
--- src/entry.rt:18:21
 cast-table-2 : tie.Need-cast-table-2
 cast-table-2 c = search needs
 
--- src/entry.rt:18:11
 add-table-3 : tie.Need-add-table-3
 add-table-3 c = search needs
 
--- src/entry.rt:18:5
 slice-write-table-4 : tie.Need-slice-write-table-4
 slice-write-table-4 c = simp length-set (omega arith)
 
--- src/entry.rt:19:21
 cast-table-3 : tie.Need-cast-table-3
 cast-table-3 c = search needs
 
--- src/entry.rt:19:11
 add-table-4 : tie.Need-add-table-4
 add-table-4 c = search needs
 
--- src/entry.rt:19:5
 slice-write-table-5 : tie.Need-slice-write-table-5
 slice-write-table-5 c = simp length-set (omega arith)
 
--- src/entry.rt:20:21
 cast-table-4 : tie.Need-cast-table-4
 cast-table-4 c = search needs
 
--- src/entry.rt:20:11
 add-table-5 : tie.Need-add-table-5
 add-table-5 c = search needs
 
--- src/entry.rt:20:5
 slice-write-table-6 : tie.Need-slice-write-table-6
 slice-write-table-6 c = simp length-set (omega arith)
 
--- src/entry.rt:10:1
 same-length : tie.Need-same-length
 same-length c = search needs
 
--- src/entry.rt:10:1
 returns : tie.Need-returns
 returns c = stored (c .args .table .now) (c .args .count) (c .args .kind) (c .args .label) (c .args .left) (c .args .right) (c .pre)
 

@@ -4,18 +4,13 @@ use native.Mathlib.Omega.{arith}
 use Rattle.tokens.specs.Label.{digit, too-low, too-high}
 use Rattle.tokens.proofs.label.digit.Statement.{statement}
 use Rattle.tokens.proofs.label.digit.Tie as tie
-use Rattle.tokens.proofs.label.digit.Reads as reads
-use Rattle.tokens.proofs.label.digit.Lts as lts
 
--- src/label.rt:25:9
 returns : tie.Need-returns
 returns c = too-low (c .if1 .taken)
 
--- src/label.rt:28:9
 returns-2 : tie.Need-returns-2
 returns-2 c = too-high (c .if2 .taken)
 
--- src/label.rt:21:1
 returns-3 : tie.Need-returns-3
 returns-3 c = digit {d = c .before .before .args .byte - 48} (omega arith) (omega arith)
 

@@ -4,39 +4,28 @@ use Rattle.tokens.proofs.Labels.{not-numbered, numbered, number-follows
 use borrow.Author.Needs.{needs}
 use Rattle.tokens.proofs.label.labelled.Statement.{statement}
 use Rattle.tokens.proofs.label.labelled.Tie as tie
-use Rattle.tokens.proofs.label.labelled.Reads as reads
-use Rattle.tokens.proofs.label.labelled.Lts as lts
-use Rattle.tokens.proofs.entry.leaf.Reads as leaf-reads
-use Rattle.tokens.proofs.label.read_label.Reads as read-label-reads
 
--- src/parse.rt:223:9
 read-label-requires : tie.Need-read-label-requires
 read-label-requires c κs = search needs
 
--- src/parse.rt:224:25
 enum-known-label : tie.Need-enum-known-label
 enum-known-label c = search needs
 
--- src/parse.rt:225:9
 enum-told : tie.Need-enum-told
 enum-told c = search needs
 
--- src/parse.rt:225:9
 returns : tie.Need-returns
 returns c = not-numbered (c .before .before .read-label .ensures) (c .before .match .keys2) (c .before .before .before .before .before .pre .within)
 
--- src/parse.rt:227:5
 leaf-requires : tie.Need-leaf-requires
 leaf-requires c κs =
     let n = numbered (c .before .before .before .before .read-label .ensures) (c .before .before .label .given .1) in
     let r = c .before .before .before .before .before .before .before .pre .room in
     omega (arith, n .1, n .2)
 
--- src/parse.rt:219:1
 same-length : tie.Need-same-length
 same-length c = search needs
 
--- src/parse.rt:219:1
 returns-2 : tie.Need-returns-2
 returns-2 c = number-follows (c .before .before .before .before .before .before .before .read-label .ensures) (c .before .before .before .before .before .label .given .1) (c .before .before .leaf .ensures)
 

@@ -9,10 +9,6 @@ use Rattle.tokens.proofs.Labels.{at-most-ten, no-label, one-read, two-r
 use borrow.Author.Needs.{needs}
 use Rattle.tokens.proofs.label.read_label.Statement.{statement}
 use Rattle.tokens.proofs.label.read_label.Tie as tie
-use Rattle.tokens.proofs.label.read_label.Reads as reads
-use Rattle.tokens.proofs.label.read_label.Lts as lts
-use Rattle.tokens.proofs.label.byte_at.Reads as byte-at-reads
-use Rattle.tokens.proofs.label.digit.Reads as digit-reads
 
 -- the first byte as a digit
 tens : (c : tie.After-digit) → DigitOf (getD (c .before .before .before .args .text .now) (c .before .before .before .args .at) 0) (c .digit .result)
@@ -22,55 +18,42 @@ tens c = subst (λ (b : ℕ). DigitOf b (c .digit .result)) (c .before .byte-at 
 ones : (c : tie.After-digit2) → DigitOf (getD (c .before .before .before .before .before .before .before .args .text .now) (c .before .before .before .before .before .before .before .args .at + 1) 0) (c .digit2 .result)
 ones c = subst (λ (b : ℕ). DigitOf b (c .digit2 .result)) (c .before .byte-at2 .ensures) (c .digit2 .ensures)
 
--- src/label.rt:38:22
 byte-at-requires : tie.Need-byte-at-requires
 byte-at-requires c κs = search needs
 
--- src/label.rt:38:9
 digit-requires : tie.Need-digit-requires
 digit-requires c κs = search needs
 
--- src/label.rt:40:9
 returns : tie.Need-returns
 returns c = no-label _ _ (tens (c .before)) (inl (c .if1 .taken))
 
--- src/label.rt:43:9
 returns-2 : tie.Need-returns-2
 returns-2 c = no-label _ _ (tens (c .before .before)) (inr (c .if2 .taken))
 
--- src/label.rt:45:36
 add-byte-at : tie.Need-add-byte-at
 add-byte-at c = search needs
 
--- src/label.rt:45:22
 byte-at-requires-2 : tie.Need-byte-at-requires-2
 byte-at-requires-2 c κs = search needs
 
--- src/label.rt:45:9
 digit-requires-2 : tie.Need-digit-requires-2
 digit-requires-2 c κs = search needs
 
--- src/label.rt:47:20
 mul-both : tie.Need-mul-both
 mul-both c = omega (arith, at-most-ten (tens (c .before .before .before .before .before)))
 
--- src/label.rt:47:20
 add-both : tie.Need-add-both
 add-both c = omega (arith, at-most-ten (tens (c .before .before .before .before .before)))
 
--- src/label.rt:51:23
 add-t11 : tie.Need-add-t11
 add-t11 c = search needs
 
--- src/label.rt:49:13
 returns-3 : tie.Need-returns-3
 returns-3 c = two-read _ _ _ (tens (c .before .before .before .before .before .before)) (c .before .before .before .before .before .if1 .left) (c .before .before .before .before .if2 .left) _ (ones (c .before .before)) (c .before .if3 .taken) (c .if4 .taken)
 
--- src/label.rt:57:15
 add-t8 : tie.Need-add-t8
 add-t8 c = search needs
 
--- src/label.rt:34:1
 returns-4 : tie.Need-returns-4
 returns-4 c = one-read _ _ _ (tens (c .before .before .before .before .before)) (c .before .before .before .before .if1 .left) (c .before .before .before .if2 .left) (ones (c .before)) (⊎-elim (λ w. inr (w .1 .left)) (λ w. inl (w .left)) (c .if3 .came))
 
