@@ -160,16 +160,11 @@ fn bracketed(
     if depth >= MOST_OPEN {
         return Parsed::Deep(at);
     }
-    match bracket {
-        Bracket::Round => {
-            let inner = path(text, at + 1, depth + 1, table, count);
-            closed(text, inner, closing(bracket))
-        }
-        _ => {
-            let inner = filter(text, at + 1, depth + 1, table, count);
-            closed(text, inner, closing(bracket))
-        }
-    }
+    let inner = match bracket {
+        Bracket::Round => path(text, at + 1, depth + 1, table, count),
+        _ => filter(text, at + 1, depth + 1, table, count),
+    };
+    closed(text, inner, closing(bracket))
 }
 
 // "Term: `!` term, `t`, `f`, `#` and a label, `{` filter `}`, or a path"

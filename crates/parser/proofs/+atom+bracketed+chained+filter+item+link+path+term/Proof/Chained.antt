@@ -3,13 +3,14 @@ use Prim.Native.Nat.{ℕ, _+_, _-_, _*_, _≤_, _<_}
 use mathlib.Core.Path.{_≡_, refl, sym, _∙_, subst}
 use lib.ListN.{length, getD}
 use borrow.Author.Needs.{needs}
+use borrow.Fn.Kinds.{In}
 use native.Mathlib.Omega.{arith}
 use Rattle.reply.specs.Bytes.{Bytes}
 use Rattle.tokens.specs.Reading.{chains, joining}
 use Rattle.tokens.proofs.Places.{inside}
 use Rattle.tokens.proofs.Following.{got-stands, ready-after}
 use Rattle.tokens.proofs.Chains.{GoesOn, chaining, Going, started, not-started, ended, turned, not-turned}
-use Rattle.parser.proofs.+atom+bracketed+chained+filter+item+link+path+term.Proof.Measures.{chained-at, link-below}
+use Rattle.parser.proofs.+atom+bracketed+chained+filter+item+link+path+term.Proof.Measures.{given, asked, μ-chained, μ-link}
 use Rattle.parser.proofs.+atom+bracketed+chained+filter+item+link+path+term.Lts-chained as lts
 use Rattle.parser.proofs.chained.Reads as chained
 use Rattle.parser.proofs.link.Reads as link
@@ -17,9 +18,15 @@ use Rattle.tokens.proofs.label.byte_at.Reads as byte-at-reads
 use Rattle.tokens.proofs.kind.joint.Reads as joint-reads
 use Rattle.tokens.proofs.kind.kind_of.Reads as kind-of-reads
 use Rattle.tokens.proofs.entry.put.Reads as put-reads
+use Rattle.parser.proofs.chained.Kinds as chained-kinds
+use Rattle.parser.proofs.link.Kinds as link-kinds
+
+-- what it is given, and what its callees ask and say
+abbrev pub own : ℕ → In 2 chained-kinds.ps
+own = given chained-kinds.ps μ-chained chained.Pre
 
 abbrev pub claims : ℕ → lts.Claims
-claims t = (link-below t, link.Post, byte-at-reads.Asked, byte-at-reads.Learnt, joint-reads.Asked, joint-reads.Learnt, kind-of-reads.Asked, kind-of-reads.Learnt, put-reads.Asked, put-reads.Learnt)
+claims t = (asked link-kinds.ps μ-link link.Pre t, link.Post, byte-at-reads.Asked, byte-at-reads.Learnt, joint-reads.Asked, joint-reads.Learnt, kind-of-reads.Asked, kind-of-reads.Learnt, put-reads.Asked, put-reads.Learnt)
 
 abbrev pub Inv-loop : lts.InvT-loop
 Inv-loop text at depth table₀ count chain next₀ written₀ table next written =
@@ -32,16 +39,16 @@ abbrev pub μ-loop : lts.MeasureT-loop
 module _ (t : ℕ) where
   -- Places on the way: the function's beginning, the loop's head, a turn of it, and behind one more link.
   abbrev Beginning : Type 0
-  Beginning = lts.Start (claims t) (chained-at t) chained.Post Inv-loop μ-loop
+  Beginning = lts.Start (claims t) (own t) chained.Post Inv-loop μ-loop
 
   abbrev Head : Type 0
-  Head = lts.At-loop (claims t) (chained-at t) chained.Post Inv-loop μ-loop
+  Head = lts.At-loop (claims t) (own t) chained.Post Inv-loop μ-loop
 
   abbrev Turn : Type 0
-  Turn = lts.Then1 (claims t) (chained-at t) chained.Post Inv-loop μ-loop
+  Turn = lts.Then1 (claims t) (own t) chained.Post Inv-loop μ-loop
 
   abbrev More : Type 0
-  More = lts.After-more (claims t) (chained-at t) chained.Post Inv-loop μ-loop
+  More = lts.After-more (claims t) (own t) chained.Post Inv-loop μ-loop
 
   abbrev beginning : Head → Beginning
   beginning c = c .before .before .before .before .before .before .before .before .before .before
@@ -90,31 +97,31 @@ module _ (t : ℕ) where
       let i = b .few in
       (h, b .within, b .some, omega arith)
 
-  pub link-requires : lts.Need-link-requires (claims t) (chained-at t) chained.Post Inv-loop μ-loop
+  pub link-requires : lts.Need-link-requires (claims t) (own t) chained.Post Inv-loop μ-loop
   link-requires c κs = search needs
 
-  pub enum-known-first : lts.Need-enum-known-first (claims t) (chained-at t) chained.Post Inv-loop μ-loop
+  pub enum-known-first : lts.Need-enum-known-first (claims t) (own t) chained.Post Inv-loop μ-loop
   enum-known-first c = search needs
 
-  pub same-length : lts.Need-same-length (claims t) (chained-at t) chained.Post Inv-loop μ-loop
+  pub same-length : lts.Need-same-length (claims t) (own t) chained.Post Inv-loop μ-loop
   same-length c = search needs
 
-  pub returns : lts.Need-returns (claims t) (chained-at t) chained.Post Inv-loop μ-loop
+  pub returns : lts.Need-returns (claims t) (own t) chained.Post Inv-loop μ-loop
   returns c = not-started (chaining (c .before .before .before .before .before .before .before .args .chain)) (c .match .keys2) (c .before .before .before .link .ensures)
 
-  pub loop-holds : lts.Need-loop-holds (claims t) (chained-at t) chained.Post Inv-loop μ-loop
+  pub loop-holds : lts.Need-loop-holds (claims t) (own t) chained.Post Inv-loop μ-loop
   loop-holds c = (refl, λ before g. g)
 
-  pub byte-at-requires : lts.Need-byte-at-requires (claims t) (chained-at t) chained.Post Inv-loop μ-loop
+  pub byte-at-requires : lts.Need-byte-at-requires (claims t) (own t) chained.Post Inv-loop μ-loop
   byte-at-requires c κs = search needs
 
-  pub joint-requires : lts.Need-joint-requires (claims t) (chained-at t) chained.Post Inv-loop μ-loop
+  pub joint-requires : lts.Need-joint-requires (claims t) (own t) chained.Post Inv-loop μ-loop
   joint-requires c κs = search needs
 
-  pub add-link : lts.Need-add-link (claims t) (chained-at t) chained.Post Inv-loop μ-loop
+  pub add-link : lts.Need-add-link (claims t) (own t) chained.Post Inv-loop μ-loop
   add-link c = omega (arith, in-text c, beginning (head c) .good .0)
 
-  pub link-requires-2 : lts.Need-link-requires-2 (claims t) (chained-at t) chained.Post Inv-loop μ-loop
+  pub link-requires-2 : lts.Need-link-requires-2 (claims t) (own t) chained.Post Inv-loop μ-loop
   link-requires-2 c κs =
       let s = beginning (head (c .before)) in
       let g = going (head (c .before)) .stands in
@@ -123,36 +130,36 @@ module _ (t : ℕ) where
       let m = s .pre .0 in
       (omega arith, ready-after (s .pre .1) g (kept-length (head (c .before))) l)
 
-  pub enum-known-more : lts.Need-enum-known-more (claims t) (chained-at t) chained.Post Inv-loop μ-loop
+  pub enum-known-more : lts.Need-enum-known-more (claims t) (own t) chained.Post Inv-loop μ-loop
   enum-known-more c = search needs
 
-  pub same-length-2 : lts.Need-same-length-2 (claims t) (chained-at t) chained.Post Inv-loop μ-loop
+  pub same-length-2 : lts.Need-same-length-2 (claims t) (own t) chained.Post Inv-loop μ-loop
   same-length-2 c = c .before .before .before .link2 .kept .1 .1 .1 .0 ∙ kept-length (head (c .before .before .before .before .before))
 
-  pub returns-2 : lts.Need-returns-2 (claims t) (chained-at t) chained.Post Inv-loop μ-loop
+  pub returns-2 : lts.Need-returns-2 (claims t) (own t) chained.Post Inv-loop μ-loop
   returns-2 c =
       let own = c .before .before .before .before .before in
       not-turned (chaining (beginning (head own) .args .chain)) (going (head own)) (joint-next own) (c .match2 .keys2) (c .before .before .before .link2 .ensures)
 
-  pub kind-of-requires : lts.Need-kind-of-requires (claims t) (chained-at t) chained.Post Inv-loop μ-loop
+  pub kind-of-requires : lts.Need-kind-of-requires (claims t) (own t) chained.Post Inv-loop μ-loop
   kind-of-requires c κs = search needs
 
-  pub sub-put : lts.Need-sub-put (claims t) (chained-at t) chained.Post Inv-loop μ-loop
+  pub sub-put : lts.Need-sub-put (claims t) (own t) chained.Post Inv-loop μ-loop
   sub-put c = omega (arith, going (head (turn (c .before .before .before))) .stands .some)
 
-  pub sub-put-2 : lts.Need-sub-put-2 (claims t) (chained-at t) chained.Post Inv-loop μ-loop
+  pub sub-put-2 : lts.Need-sub-put-2 (claims t) (own t) chained.Post Inv-loop μ-loop
   sub-put-2 c = omega (arith, one-more (c .before .before .before) .2)
 
-  pub put-requires : lts.Need-put-requires (claims t) (chained-at t) chained.Post Inv-loop μ-loop
+  pub put-requires : lts.Need-put-requires (claims t) (own t) chained.Post Inv-loop μ-loop
   put-requires c κs = omega (arith, one-more (c .before .before .before) .3, c .before .before .before .before .before .before .before .link2 .kept .1 .1 .1 .0, kept-length (head (turn (c .before .before .before))))
 
-  pub add-written : lts.Need-add-written (claims t) (chained-at t) chained.Post Inv-loop μ-loop
+  pub add-written : lts.Need-add-written (claims t) (own t) chained.Post Inv-loop μ-loop
   add-written c = omega (arith, one-more (c .before .before .before .before .before .before) .3, beginning (head (turn (c .before .before .before .before .before .before))) .good .1)
 
-  pub loop-less : lts.Need-loop-less (claims t) (chained-at t) chained.Post Inv-loop μ-loop
+  pub loop-less : lts.Need-loop-less (claims t) (own t) chained.Post Inv-loop μ-loop
   loop-less c = omega (arith, one-more (c .before .before .before .before .before .before) .0, one-more (c .before .before .before .before .before .before) .1)
 
-  pub loop-again : lts.Need-loop-again (claims t) (chained-at t) chained.Post Inv-loop μ-loop
+  pub loop-again : lts.Need-loop-again (claims t) (own t) chained.Post Inv-loop μ-loop
   loop-again c =
       let more = c .before .before .before .before .before .before in
       let own = turn more in (
@@ -160,10 +167,10 @@ module _ (t : ℕ) where
         λ before g. turned (chaining (beginning (head own) .args .chain)) (head own .loop .inv .1 before g) (joint-next own) (more .more .given .1) (c .before .before .before .before .before .before .before .before .before .before .link2 .ensures) (c .before .before .before .kind-of .ensures) (c .before .before .put .ensures),
       )
 
-  pub same-length-3 : lts.Need-same-length-3 (claims t) (chained-at t) chained.Post Inv-loop μ-loop
+  pub same-length-3 : lts.Need-same-length-3 (claims t) (own t) chained.Post Inv-loop μ-loop
   same-length-3 c = kept-length (c .before .before .before)
 
-  pub returns-3 : lts.Need-returns-3 (claims t) (chained-at t) chained.Post Inv-loop μ-loop
+  pub returns-3 : lts.Need-returns-3 (claims t) (own t) chained.Post Inv-loop μ-loop
   returns-3 c =
       let there = c .before .before .before in
       ended (chaining (beginning there .args .chain)) (going there) (λ e. c .if1 .left (c .before .before .byte-at .ensures ∙ e ∙ sym (c .before .joint .ensures)))

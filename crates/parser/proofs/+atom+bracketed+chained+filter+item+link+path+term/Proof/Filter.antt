@@ -1,20 +1,27 @@
 -- `filter` meets its contract, as a member of the cycle of calls. Assumes nothing.
 use Prim.Native.Nat.{ℕ}
 use borrow.Author.Needs.{needs}
-use Rattle.parser.proofs.+atom+bracketed+chained+filter+item+link+path+term.Proof.Measures.{filter-at, chained-below}
+use borrow.Fn.Kinds.{In}
+use Rattle.parser.proofs.+atom+bracketed+chained+filter+item+link+path+term.Proof.Measures.{given, asked, μ-chained, μ-filter}
 use Rattle.parser.proofs.+atom+bracketed+chained+filter+item+link+path+term.Lts-filter as lts
 use Rattle.parser.proofs.filter.Reads as filter
 use Rattle.parser.proofs.chained.Reads as chained
+use Rattle.parser.proofs.chained.Kinds as chained-kinds
+use Rattle.parser.proofs.filter.Kinds as filter-kinds
+
+-- what it is given, and what its callees ask and say
+abbrev pub own : ℕ → In 2 filter-kinds.ps
+own = given filter-kinds.ps μ-filter filter.Pre
 
 abbrev pub claims : ℕ → lts.Claims
-claims t = (chained-below t, chained.Post)
+claims t = (asked chained-kinds.ps μ-chained chained.Pre t, chained.Post)
 
 module _ (t : ℕ) where
-  pub chained-requires : lts.Need-chained-requires (claims t) (filter-at t) filter.Post
+  pub chained-requires : lts.Need-chained-requires (claims t) (own t) filter.Post
   chained-requires c κs = search needs
 
-  pub same-length : lts.Need-same-length (claims t) (filter-at t) filter.Post
+  pub same-length : lts.Need-same-length (claims t) (own t) filter.Post
   same-length c = search needs
 
-  pub returns : lts.Need-returns (claims t) (filter-at t) filter.Post
+  pub returns : lts.Need-returns (claims t) (own t) filter.Post
   returns c = search needs

@@ -3,6 +3,7 @@ use Prim.Native.Nat.{ℕ, _+_, _-_, _*_, _≤_, _<_}
 use mathlib.Core.Path.{_≡_, refl, sym, _∙_}
 use lib.ListN.{length, getD}
 use borrow.Author.Needs.{needs}
+use borrow.Fn.Kinds.{In}
 use native.Mathlib.Omega.{arith}
 use Rattle.reply.specs.Bytes.{Bytes}
 use Rattle.reading.proofs.Rules.{StarsRead}
@@ -10,15 +11,21 @@ use Rattle.tokens.specs.Reading.{items}
 use Rattle.tokens.proofs.Places.{inside}
 use Rattle.tokens.proofs.Chains.{Going}
 use Rattle.tokens.proofs.Stars.{atom-read, atom-not-read, no-star, starred}
-use Rattle.parser.proofs.+atom+bracketed+chained+filter+item+link+path+term.Proof.Measures.{item-at, atom-below}
+use Rattle.parser.proofs.+atom+bracketed+chained+filter+item+link+path+term.Proof.Measures.{given, asked, μ-atom, μ-item}
 use Rattle.parser.proofs.+atom+bracketed+chained+filter+item+link+path+term.Lts-item as lts
 use Rattle.parser.proofs.item.Reads as item
 use Rattle.parser.proofs.atom.Reads as atom
 use Rattle.tokens.proofs.label.byte_at.Reads as byte-at-reads
 use Rattle.tokens.proofs.entry.put.Reads as put-reads
+use Rattle.parser.proofs.atom.Kinds as atom-kinds
+use Rattle.parser.proofs.item.Kinds as item-kinds
+
+-- what it is given, and what its callees ask and say
+abbrev pub own : ℕ → In 2 item-kinds.ps
+own = given item-kinds.ps μ-item item.Pre
 
 abbrev pub claims : ℕ → lts.Claims
-claims t = (atom-below t, atom.Post, byte-at-reads.Asked, byte-at-reads.Learnt, put-reads.Asked, put-reads.Learnt)
+claims t = (asked atom-kinds.ps μ-atom atom.Pre t, atom.Post, byte-at-reads.Asked, byte-at-reads.Learnt, put-reads.Asked, put-reads.Learnt)
 
 abbrev pub Inv-loop : lts.InvT-loop
 Inv-loop text at depth table₀ count next₀ written₀ table next written =
@@ -31,13 +38,13 @@ abbrev pub μ-loop : lts.MeasureT-loop
 module _ (t : ℕ) where
   -- Places on the way: the function's beginning, the loop's head, and a turn of it.
   abbrev Beginning : Type 0
-  Beginning = lts.Start (claims t) (item-at t) item.Post Inv-loop μ-loop
+  Beginning = lts.Start (claims t) (own t) item.Post Inv-loop μ-loop
 
   abbrev Head : Type 0
-  Head = lts.At-loop (claims t) (item-at t) item.Post Inv-loop μ-loop
+  Head = lts.At-loop (claims t) (own t) item.Post Inv-loop μ-loop
 
   abbrev Turn : Type 0
-  Turn = lts.Then1 (claims t) (item-at t) item.Post Inv-loop μ-loop
+  Turn = lts.Then1 (claims t) (own t) item.Post Inv-loop μ-loop
 
   abbrev beginning : Head → Beginning
   beginning c = c .before .before .before .before .before .before .before .before .before .before
@@ -75,46 +82,46 @@ module _ (t : ℕ) where
       let h = a .some in
       (l, omega arith, omega arith)
 
-  pub atom-requires : lts.Need-atom-requires (claims t) (item-at t) item.Post Inv-loop μ-loop
+  pub atom-requires : lts.Need-atom-requires (claims t) (own t) item.Post Inv-loop μ-loop
   atom-requires c κs = search needs
 
-  pub enum-known-first : lts.Need-enum-known-first (claims t) (item-at t) item.Post Inv-loop μ-loop
+  pub enum-known-first : lts.Need-enum-known-first (claims t) (own t) item.Post Inv-loop μ-loop
   enum-known-first c = search needs
 
-  pub same-length : lts.Need-same-length (claims t) (item-at t) item.Post Inv-loop μ-loop
+  pub same-length : lts.Need-same-length (claims t) (own t) item.Post Inv-loop μ-loop
   same-length c = search needs
 
-  pub returns : lts.Need-returns (claims t) (item-at t) item.Post Inv-loop μ-loop
+  pub returns : lts.Need-returns (claims t) (own t) item.Post Inv-loop μ-loop
   returns c = atom-not-read (c .match .keys2) (c .before .before .before .atom .ensures)
 
-  pub loop-holds : lts.Need-loop-holds (claims t) (item-at t) item.Post Inv-loop μ-loop
+  pub loop-holds : lts.Need-loop-holds (claims t) (own t) item.Post Inv-loop μ-loop
   loop-holds c = (refl, λ before g. g)
 
-  pub byte-at-requires : lts.Need-byte-at-requires (claims t) (item-at t) item.Post Inv-loop μ-loop
+  pub byte-at-requires : lts.Need-byte-at-requires (claims t) (own t) item.Post Inv-loop μ-loop
   byte-at-requires c κs = search needs
 
-  pub sub-put : lts.Need-sub-put (claims t) (item-at t) item.Post Inv-loop μ-loop
+  pub sub-put : lts.Need-sub-put (claims t) (own t) item.Post Inv-loop μ-loop
   sub-put c = one-more (c .before) .1
 
-  pub put-requires : lts.Need-put-requires (claims t) (item-at t) item.Post Inv-loop μ-loop
+  pub put-requires : lts.Need-put-requires (claims t) (own t) item.Post Inv-loop μ-loop
   put-requires c κs = omega (arith, one-more (c .before) .2, kept-length (head (c .before)))
 
-  pub add-next : lts.Need-add-next (claims t) (item-at t) item.Post Inv-loop μ-loop
+  pub add-next : lts.Need-add-next (claims t) (own t) item.Post Inv-loop μ-loop
   add-next c = omega (arith, one-more (c .before .before .before .before) .0, beginning (head (c .before .before .before .before)) .good .0)
 
-  pub add-written : lts.Need-add-written (claims t) (item-at t) item.Post Inv-loop μ-loop
+  pub add-written : lts.Need-add-written (claims t) (own t) item.Post Inv-loop μ-loop
   add-written c = omega (arith, one-more (c .before .before .before .before) .2, beginning (head (c .before .before .before .before)) .good .1)
 
-  pub loop-less : lts.Need-loop-less (claims t) (item-at t) item.Post Inv-loop μ-loop
+  pub loop-less : lts.Need-loop-less (claims t) (own t) item.Post Inv-loop μ-loop
   loop-less c = omega (arith, one-more (c .before .before .before .before) .0)
 
-  pub loop-again : lts.Need-loop-again (claims t) (item-at t) item.Post Inv-loop μ-loop
+  pub loop-again : lts.Need-loop-again (claims t) (own t) item.Post Inv-loop μ-loop
   loop-again c =
       let own = c .before .before .before .before in
       (c .before .before .put .kept .0 ∙ head own .loop .inv .0, λ before g. starred (head own .loop .inv .1 before g) (star-next own) (c .before .before .put .ensures))
 
-  pub same-length-2 : lts.Need-same-length-2 (claims t) (item-at t) item.Post Inv-loop μ-loop
+  pub same-length-2 : lts.Need-same-length-2 (claims t) (own t) item.Post Inv-loop μ-loop
   same-length-2 c = kept-length (c .before .before)
 
-  pub returns-2 : lts.Need-returns-2 (claims t) (item-at t) item.Post Inv-loop μ-loop
+  pub returns-2 : lts.Need-returns-2 (claims t) (own t) item.Post Inv-loop μ-loop
   returns-2 c = no-star (going (c .before .before)) (λ e. c .if1 .left (c .before .byte-at .ensures ∙ e))

@@ -1,20 +1,27 @@
 -- `path` meets its contract, as a member of the cycle of calls. Assumes nothing.
 use Prim.Native.Nat.{ℕ}
 use borrow.Author.Needs.{needs}
-use Rattle.parser.proofs.+atom+bracketed+chained+filter+item+link+path+term.Proof.Measures.{path-at, chained-below}
+use borrow.Fn.Kinds.{In}
+use Rattle.parser.proofs.+atom+bracketed+chained+filter+item+link+path+term.Proof.Measures.{given, asked, μ-chained, μ-path}
 use Rattle.parser.proofs.+atom+bracketed+chained+filter+item+link+path+term.Lts-path as lts
 use Rattle.parser.proofs.path.Reads as path
 use Rattle.parser.proofs.chained.Reads as chained
+use Rattle.parser.proofs.chained.Kinds as chained-kinds
+use Rattle.parser.proofs.path.Kinds as path-kinds
+
+-- what it is given, and what its callees ask and say
+abbrev pub own : ℕ → In 2 path-kinds.ps
+own = given path-kinds.ps μ-path path.Pre
 
 abbrev pub claims : ℕ → lts.Claims
-claims t = (chained-below t, chained.Post)
+claims t = (asked chained-kinds.ps μ-chained chained.Pre t, chained.Post)
 
 module _ (t : ℕ) where
-  pub chained-requires : lts.Need-chained-requires (claims t) (path-at t) path.Post
+  pub chained-requires : lts.Need-chained-requires (claims t) (own t) path.Post
   chained-requires c κs = search needs
 
-  pub same-length : lts.Need-same-length (claims t) (path-at t) path.Post
+  pub same-length : lts.Need-same-length (claims t) (own t) path.Post
   same-length c = search needs
 
-  pub returns : lts.Need-returns (claims t) (path-at t) path.Post
+  pub returns : lts.Need-returns (claims t) (own t) path.Post
   returns c = search needs
