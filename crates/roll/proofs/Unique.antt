@@ -1,14 +1,15 @@
--- A roll has at most one fault, so two replies that fit call 1, and two parts that fit call 7, are equal. Assumes nothing.
+-- A roll has at most one fault, so two replies that fit call 1 are equal; and the run of a record lies at one place, so two parts that
+-- fit call 7 are the same part. Assumes nothing.
 use Prim.Native.Nat.{ℕ, _*_}
 use native.Mathlib.Omega.{arith}
 use mathlib.Core.Path.{_≡_, refl, ap}
-use lib.Seq.{slice}
+use denote.Ref.{RefT, ptr, now}
 use Rattle.reply.specs.Reply.{Said}
 use Rattle.reply.specs.Bytes.{Bytes}
 use Rattle.reply.proofs.Unique.{OneFault, Wrong, lowest-one, checked-one}
 use Rattle.tree.proofs.Runs.{run-ends-unique}
 use Rattle.roll.specs.Roll.{nodes, NodeRight, NodeFault, label, second, parent, Roll, RollFault, bad-length, bad-node}
-use Rattle.roll.specs.Promise.{RollChecked, RunGiven, bad-roll, no-record, run}
+use Rattle.roll.specs.Promise.{RollChecked, RunPlace, bad-roll, no-record, run, RunGiven}
 use Rattle.roll.proofs.Deciding.{roll-in-order}
 
 module _ (b : Bytes) where
@@ -43,14 +44,18 @@ module _ (b : Bytes) where
   unfolding RollChecked
   roll-checked-one x y = checked-one roll-wrong roll-one x y
 
-  -- call 7 gives one part
-  pub run-given-one : {k : ℕ} {x y : Bytes} → RunGiven b k x → RunGiven b k y → x ≡ y
-  run-given-one (bad-roll n) (bad-roll n′) = refl
-  run-given-one (bad-roll n) (no-record l) = refl
-  run-given-one (bad-roll n) (run r l e) = absurd (n r)
-  run-given-one (no-record l) (bad-roll n) = refl
-  run-given-one (no-record l) (no-record l′) = refl
-  run-given-one (no-record l) (run r k e) = absurd (omega arith)
-  run-given-one (run r l e) (bad-roll n) = absurd (n r)
-  run-given-one (run r l e) (no-record k) = absurd (omega arith)
-  run-given-one {k} (run r l e) (run r′ l′ e′) = ap (λ (x : ℕ). slice (4 * k) (4 * x) b) (run-ends-unique (nodes b) (roll-in-order r) e e′ l)
+  -- the run of a record lies at one place
+  pub run-place-one : {k s e s′ e′ : ℕ} → RunPlace b k s e → RunPlace b k s′ e′ → (s ≡ s′) × (e ≡ e′)
+  run-place-one (bad-roll n) (bad-roll n′) = (refl, refl)
+  run-place-one (bad-roll n) (no-record l) = (refl, refl)
+  run-place-one (bad-roll n) (run r l x) = absurd (n r)
+  run-place-one (no-record l) (bad-roll n) = (refl, refl)
+  run-place-one (no-record l) (no-record l′) = (refl, refl)
+  run-place-one (no-record l) (run r l′ x) = absurd (omega arith)
+  run-place-one (run r l x) (bad-roll n) = absurd (n r)
+  run-place-one (run r l x) (no-record l′) = absurd (omega arith)
+  run-place-one (run r l x) (run r′ l′ x′) = (refl, ap (λ (e : ℕ). 4 * e) (run-ends-unique (nodes b) (roll-in-order r) x x′ l))
+
+-- call 7 gives one part of the table: two that fit have the same pointer and the same bytes
+pub run-given-one : {table x y : RefT Bytes} {k : ℕ} → RunGiven table k x → RunGiven table k y → (ptr x ≡ ptr y) × (now x ≡ now y)
+run-given-one {table} g h = let same = run-place-one (now table) (g .place) (h .place) in (cc, cc)

@@ -9,7 +9,7 @@ ghost use Rattle.tree.specs.Tree.{RunEnds};
 ghost use Rattle.roll.specs.Roll.{nodes, Roll};
 ghost use Rattle.roll.specs.Promise.{RunGiven};
 
-// Where the run of record k ends: the first record behind k whose parent comes before k.
+// Where the run of record k ends: at the first record behind k whose parent comes before k, or behind the last record.
 pub fn end_of(roll: &[u8], k: usize) -> usize
     requires { ⌜ Roll (now roll) ⌝ }
     requires { ⌜ k < length (nodes (now roll)) ⌝ }
@@ -26,10 +26,10 @@ pub fn end_of(roll: &[u8], k: usize) -> usize
     j
 }
 
-// Run of a record: the part of the table that holds record k and all its descendants, empty for a bad roll or where
-// there is no such record.
+// Run of a record: the part of the table that holds record k and all its descendants, from k's first byte on. For a bad
+// roll, or where there is no such record, it is empty and begins where the table does.
 pub fn run_of(roll: &[u8], k: usize) -> &[u8]
-    ensures { λ r. ⌜ RunGiven (now (roll .entry)) k (now r) ⌝ }
+    ensures { λ r. ⌜ RunGiven (roll .entry) k r ⌝ }
 {
     let reply = check_roll(roll);
     let Reply::Count(n) = reply else {
@@ -39,6 +39,6 @@ pub fn run_of(roll: &[u8], k: usize) -> &[u8]
         return &roll[..0];
     }
     let start = 4 * k;
-    let end = 4 * end_of(roll, k);
+    let end = start + 4 * (end_of(roll, k) - k);
     &roll[start..end]
 }

@@ -1,16 +1,16 @@
--- `roll::run::run_of` meets its contract: a refused roll and a number that is not in it give the empty part, any other the records from k up to
--- where its run ends. Assumes nothing.
+-- `roll::run::run_of` meets its contract: a refused roll and a number that is not in it give the empty part at the front of the table, any
+-- other the records from k up to where its run ends. Assumes nothing.
 use Prim.Native.Nat.{_*_, _≤_, _<_}
 use native.Mathlib.Omega.{arith}
-use mathlib.Core.Path.{_≡_}
+use mathlib.Core.Path.{_≡_, refl}
 use borrow.Author.Needs.{needs}
 use denote.Ref.{now}
 use lib.ListN.{length}
 use Rattle.roll.specs.Roll.{nodes, Roll}
-use Rattle.roll.specs.Promise.{bad-roll, no-record, run}
+use Rattle.roll.specs.Promise.{bad-roll, no-record}
 use Rattle.roll.proofs.Records.{record-inside}
 use Rattle.roll.proofs.Checking.{roll-right, not-roll}
-use Rattle.roll.proofs.Parts.{slice-part, run-inside}
+use Rattle.roll.proofs.Parts.{run-inside, run-place, empty-given, part-given}
 use Rattle.roll.proofs.run.run_of.Statement.{statement}
 use Rattle.roll.proofs.run.run_of.Tie as tie
 
@@ -29,7 +29,8 @@ slice-aggregate-result c = search needs
 returns : tie.Need-returns
 returns c =
     let checked = c .before .before .before in
-    bad-roll (not-roll (now (checked .before .before .args .roll)) (c .before .enum-told .given .1) (checked .check-roll .ensures))
+    let refused = not-roll (now (checked .before .before .args .roll)) (c .before .enum-told .given .1) (checked .check-roll .ensures) in
+    empty-given (bad-roll refused) refl refl
 
 slice-aggregate-result-2 : tie.Need-slice-aggregate-result-2
 slice-aggregate-result-2 c = search needs
@@ -43,14 +44,16 @@ counted c =
     roll-right (now (checked .before .before .args .roll)) (c .before .reply .given .1) (checked .check-roll .ensures)
 
 returns-2 : tie.Need-returns-2
-returns-2 c = no-record (omega (arith, counted (c .before .before) .1))
+returns-2 c = empty-given (no-record (omega (arith, counted (c .before .before) .1))) refl refl
 
 -- where the test lets on, there is a record k
 within : (c : tie.Else1) → let a = c .before .before .before .before .before .before .args in a .k < length (nodes (now (a .roll)))
 within c = omega (arith, counted (c .before) .1)
 
 mul-start : tie.Need-mul-start
-mul-start c = let a = c .before .before .before .before .before .before .args in omega (arith, record-inside (now (a .roll)) (a .k) (within c))
+mul-start c =
+    let a = c .before .before .before .before .before .before .args in
+    omega (arith, record-inside (now (a .roll)) (a .k) (within c))
 
 end-of-requires : tie.Need-end-of-requires
 end-of-requires c κs = (counted (c .before) .0, within c)
@@ -58,25 +61,31 @@ end-of-requires c κs = (counted (c .before) .0, within c)
 -- the bytes of the run lie in the table
 inside : (c : tie.After-end-of)
     → let a = c .before .before .before .before .before .before .before .args in
-    (4 * a .k ≤ 4 * c .end-of .result) × (4 * c .end-of .result ≤ length (now (a .roll)))
+    (a .k < c .end-of .result) × (4 * c .end-of .result ≤ length (now (a .roll)))
 inside c = run-inside (counted (c .before .before) .0) (within (c .before)) (c .end-of .ensures)
+
+sub-end : tie.Need-sub-end
+sub-end c = omega (arith, inside c)
 
 mul-end : tie.Need-mul-end
 mul-end c = omega (arith, inside c)
 
+add-end : tie.Need-add-end
+add-end c = omega (arith, inside c)
+
 sub-result : tie.Need-sub-result
-sub-result c = inside c .0
+sub-result c = search needs
 
 part-result-start : tie.Need-part-result-start
-part-result-start c = inside c .0
+part-result-start c = search needs
 
 part-result-end : tie.Need-part-result-end
-part-result-end c = inside c .1
+part-result-end c = omega (arith, inside c)
 
 returns-3 : tie.Need-returns-3
 returns-3 c =
     let e = c .before in
-    rw (slice-part _ _ _ (inside e .0)) (run (counted (e .before .before) .0) (within (e .before)) (e .end-of .ensures))
+    part-given (omega arith) refl refl (run-place (counted (e .before .before) .0) (within (e .before)) (e .end-of .ensures))
 
 pub run-of-spec : {M : Type 1} → statement M
 run-of-spec =
@@ -91,7 +100,9 @@ run-of-spec =
     returns-2
     mul-start
     end-of-requires
+    sub-end
     mul-end
+    add-end
     sub-result
     part-result-start
     part-result-end
