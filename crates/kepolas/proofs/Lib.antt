@@ -1,2 +1,3 @@
 mod Words
 mod Parts
+pub mod Unique

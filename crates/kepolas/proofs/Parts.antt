@@ -1,38 +1,42 @@
--- Where the part that call 7 gives lies in the roll. Assumes nothing.
+-- Where the part that call 7 gives lies in the roll, from its length alone. Assumes nothing.
 use Prim.Native.Nat.{ℕ, _+_, _-_, _*_, _≤_, _<_}
 use native.Mathlib.Omega.{arith}
-use mathlib.Core.Path.{_≡_, refl, ap, subst}
-use mathlib.Core.List.{[], _∷_}
+use mathlib.Core.Path.{_≡_}
+use denote.Ref.{RefT, now}
 use lib.ListN.{length}
 use lib.Seq.{slice, length-slice}
 use Rattle.reply.specs.Bytes.{Bytes}
 use Rattle.tree.specs.Tree.{RunEnds}
 use Rattle.roll.specs.Roll.{nodes, Roll}
-use Rattle.roll.specs.Promise.{RunGiven, bad-roll, no-record, run}
-use Rattle.roll.proofs.Records.{count-nodes}
-use Rattle.roll.proofs.Deciding.{roll-in-order}
-use Rattle.tree.proofs.Runs.{end, end-runs, end-behind, run-ends-unique}
+use Rattle.roll.specs.Promise.{RunPlace, bad-roll, no-record, run, RunGiven}
+use Rattle.roll.proofs.Parts.{run-inside}
 
--- a part that is not empty starts at the record's first byte and lies within the roll
-pub run-part : {roll : Bytes} {k : ℕ} {part : Bytes} → RunGiven roll k part → 0 < length part
-    → (4 * k + length part ≤ length roll) × (length roll ≤ 16384) × (part ≡ slice (4 * k) (4 * k + length part) roll)
-run-part (bad-roll n) l = absurd (omega arith)
-run-part (no-record n) l = absurd (omega arith)
-run-part {roll} {k} (run {e = e} r m ends) l =
-    let t = nodes roll in
-    let o = roll-in-order r in
-    let behind = end-behind t o k m in
-    let same : e ≡ end t k = run-ends-unique t o ends (end-runs t o k m) m in
-    let nodes-fit : 4 * length t ≤ length roll = omega (arith, count-nodes roll) in
-    let fits : 4 * e ≤ length roll = omega (arith, behind .1) in
-    let size : length (slice (4 * k) (4 * e) roll) ≡ 4 * e - 4 * k = length-slice (4 * k) (4 * e) roll fits in
-    let stops : 4 * e ≡ 4 * k + length (slice (4 * k) (4 * e) roll) = omega (arith, behind .0) in
-    (omega arith, r .size .size .most, ap (λ (x : ℕ). slice (4 * k) x roll) stops)
+module _ {roll : Bytes} {k : ℕ} where
+  -- a run has as many bytes as lie between its start and its end
+  run-length : {e : ℕ} → Roll roll → k < length (nodes roll) → RunEnds (nodes roll) k e
+      → length (slice (4 * k) (4 * e) roll) ≡ 4 * e - 4 * k
+  run-length {e} r l ends = length-slice (4 * k) (4 * e) roll (run-inside r l ends .1)
 
--- an empty part is told as one
-pub empty-part : {roll : Bytes} {k : ℕ} {part : Bytes} → RunGiven roll k part → length part ≡ 0 → RunGiven roll k (slice 0 0 roll)
-empty-part {roll} {k} {part} given e = subst (RunGiven roll k) (none part e) given
-  where
-    none : (part : Bytes) → length part ≡ 0 → part ≡ slice 0 0 roll
-    none [] e = refl
-    none (x ∷ part) e = absurd (omega arith)
+  -- no run is empty, so what is empty lies at 0
+  empty : {s e : ℕ} → RunPlace roll k s e → length (slice s e roll) ≡ 0 → RunPlace roll k 0 0
+  empty (bad-roll n) z = bad-roll n
+  empty (no-record l) z = no-record l
+  empty (run r l ends) z = absurd (omega (arith, run-length r l ends, run-inside r l ends))
+
+  -- and what is not is the run of a record, which lies from the record's first byte on, within the longest roll
+  full : {s e : ℕ} → RunPlace roll k s e → 0 < length (slice s e roll)
+      → RunPlace roll k (4 * k) (4 * k + length (slice s e roll)) × (4 * k + length (slice s e roll) ≤ 16384)
+  full (bad-roll n) z = absurd (omega arith)
+  full (no-record l) z = absurd (omega arith)
+  full (run {e = e} r l ends) z =
+      let inside = run-inside r l ends in
+      let stops : 4 * k + length (slice (4 * k) (4 * e) roll) ≡ 4 * e = omega (arith, run-length r l ends) in
+      rw stops (run r l ends, omega (arith, r .size .size .most))
+
+module _ {table part : RefT Bytes} {k : ℕ} (given : RunGiven table k part) where
+  -- the same of a part that was given
+  pub empty-place : length (now part) ≡ 0 → RunPlace (now table) k 0 0
+  empty-place z = empty (given .place) (rw (given .bytes) at z)
+
+  pub full-place : 0 < length (now part) → RunPlace (now table) k (4 * k) (4 * k + length (now part)) × (4 * k + length (now part) ≤ 16384)
+  full-place z = rw (given .bytes) (full (given .place) (rw (given .bytes) at z))

@@ -1,13 +1,13 @@
--- What a call says, for callers in other languages: three words, 0 and the count, or 1, the refusal's number and its place.
+-- What a call says, for callers in other languages, in three words. A reply: 0, the count and 0, or 1, the refusal's number and its place.
+-- The part that call 7 gives: 0, and where it starts and ends.
 use Prim.Native.Nat.{ℕ}
 use mathlib.Core.Path.{_≡_}
 use mathlib.Core.Bool.{cond}
 use mathlib.Core.List.{List, _∷_}
 use lib.Dec.{ltb}
 use lib.ListN.{length, drop}
-use lib.Seq.{slice}
 use Rattle.reply.specs.Bytes.{Bytes}
-use Rattle.roll.specs.Promise.{RunGiven}
+use Rattle.roll.specs.Promise.{RunPlace}
 use Rattle.reply.specs.Reply.{Said, count, refused}
 
 -- Three words in front of what the caller lends, or nothing where that is too short.
@@ -24,9 +24,9 @@ pub record Tells (Promise : Said → Type 0) (before after : List ℕ) : Type 0 
   pub promised : Promise said
   pub words : after ≡ told before said
 
--- The part that call 7 gives is told by where it starts and ends in the roll.
+-- The part that call 7 gives is told by where it starts and ends in the bytes of the roll; an empty one by 0 and 0.
 pub record PartTold (roll : Bytes) (k : ℕ) (before after : List ℕ) : Type 0 where
   pub start : ℕ
   pub end : ℕ
-  pub given : RunGiven roll k (slice start end roll)
+  pub place : RunPlace roll k start end
   pub words : after ≡ inFront before 0 start end

@@ -1,4 +1,5 @@
-// The calls for C and Rust. A reply is told in three words that the caller lends: 0 and the count, or 1, the refusal's number and its place.
+// The calls for C and Rust. What they say is told in three words that the caller lends: a reply as 0, the count and 0, or as 1, the
+// refusal's number and its place; a part of a roll as 0, its start and its end.
 use reader::read_text;
 use reply::Reply;
 use reply::number_of;
@@ -53,7 +54,7 @@ pub extern "C" fn kepolas_read_text(text: &[u8], room: &mut [u8], reply: &mut [u
     tell(answer, reply);
 }
 
-// Call 7: 0, then where the part starts and ends in the bytes of the roll.
+// Call 7.
 #[no_mangle]
 pub extern "C" fn kepolas_run_of(roll: &[u8], k: usize, part: &mut [u64])
     ensures { λ _. ⌜ PartTold (now (roll .entry)) k (now (part .entry)) (now (part .exit)) ⌝ }
