@@ -1,5 +1,6 @@
 -- What call 2, "read a text", promises: which texts are refused, with which number and where, and what is written for any other.
 use Prim.Native.Nat.{ℕ, suc, _+_, _≤_, _<_}
+use Prim.Native.Char.{code}
 use mathlib.Core.Path.{_≡_}
 use mathlib.Core.Logic.{_⊎_}
 use mathlib.Core.Bool.{Bool, true, false, _||_}
@@ -31,12 +32,15 @@ pub record Breaks (text : Bytes) (i : ℕ) : Type 0 where
   pub before : (k : ℕ) → k < i → Begins (take (suc k) text)
   pub stops : (i ≡ length text) ⊎ ((i < length text) × ¬ Begins (take (suc i) text))
 
+-- the brackets that open
 unfoldable pub opening : ℕ → Bool
-opening c = eqb c 40 || eqb c 91 || eqb c 123
+opening c = eqb c (code "(") || eqb c (code "[") || eqb c (code "{")
 
+-- and those that close
 unfoldable pub closing : ℕ → Bool
-closing c = eqb c 41 || eqb c 93 || eqb c 125
+closing c = eqb c (code ")") || eqb c (code "]") || eqb c (code "}")
 
+-- how many of the bytes are such
 unfoldable pub howMany : (ℕ → Bool) → Bytes → ℕ
 howMany is [] = 0
 howMany is (c ∷ more) = elim (is c) [ true ↦ suc (howMany is more) | false ↦ howMany is more ]
