@@ -26,19 +26,20 @@ same-digit (suc zero) (suc zero) l k f g = refl
 same-digit (suc zero) (suc (suc b)) l k f g = absurd (omega arith)
 same-digit (suc (suc a)) b l k f g = absurd (omega arith)
 
+-- digit k of the half is the digit behind it of the whole
+pub of-half : (x k : ℕ) → x / 2 / 2 ^ k ≡ x / 2 ^ suc k
+of-half x k = div-div-eq-div-mul x 2 (2 ^ k) ∙ ap (λ (y : ℕ). x / y) (mul-comm 2 (2 ^ k) ∙ sym (pow-suc 2 k))
+
 -- numbers of n digits with the same digits are equal
 same-digits : (n a b : ℕ) → a < 2 ^ n → b < 2 ^ n → ((k : ℕ) → k < n → a / 2 ^ k % 2 ≡ b / 2 ^ k % 2) → a ≡ b
 same-digits zero a b l k e = omega (arith, lt-one l, lt-one k)
 same-digits (suc n) a b l k e =
     let lowest : a % 2 ≡ b % 2 = ap (λ (x : ℕ). x % 2) (sym (div-one a)) ∙ e 0 (omega arith) ∙ ap (λ (x : ℕ). x % 2) (div-one b) in
-    let rest : a / 2 ≡ b / 2 = same-digits n (a / 2) (b / 2) (half a l) (half b k) (λ j m. ap (λ (x : ℕ). x % 2) (next a j) ∙ e (suc j) (omega arith) ∙ ap (λ (x : ℕ). x % 2) (sym (next b j))) in
+    let rest : a / 2 ≡ b / 2 = same-digits n (a / 2) (b / 2) (half a l) (half b k) (λ j m. ap (λ (x : ℕ). x % 2) (of-half a j) ∙ e (suc j) (omega arith) ∙ ap (λ (x : ℕ). x % 2) (sym (of-half b j))) in
     omega (arith, div-add-mod' a 2, div-add-mod' b 2)
   where
     half : (x : ℕ) → x < 2 ^ suc n → x / 2 < 2 ^ n
     half x h = omega (arith, pow-suc 2 n)
-
-    next : (x j : ℕ) → x / 2 / 2 ^ j ≡ x / 2 ^ suc j
-    next x j = div-div-eq-div-mul x 2 (2 ^ j) ∙ ap (λ (y : ℕ). x / y) (mul-comm 2 (2 ^ j) ∙ sym (pow-suc 2 j))
 
 -- digit k of byte i is the bit of node 8 i + k
 bit-at : (map : Bytes) (i k : ℕ) → k < 8 → bit map (8 * i + k) ≡ getD map i 0 / 2 ^ k % 2

@@ -1,6 +1,6 @@
 -- "A roll to work with": the roll, its annotation and filter table, and its view, written down once.
 use Prim.Native.Nat.{ℕ}
-use mathlib.Core.List.{List, [], _∷_}
+use mathlib.Core.List.{[], _∷_}
 use Rattle.reply.specs.Bytes.{Bytes}
 use Rattle.tree.specs.Tree.{Node, Tree}
 use Rattle.roll.specs.Roll.{none, nodeBytes}

@@ -171,7 +171,7 @@ module _ (limit : ℕ) where
         (atByte (AtomReads limit n) 40 c b (λ e. inBrackets limit n 41 (40 ∷ b) (λ p. p) (λ l. readPath k (suc n) b) (λ p more l d. AtomReads.round l d) (λ p more l d m. AtomReads.round-open l d m) (λ s more l d. AtomReads.round-stops l d) AtomReads.round-deep)
         (⊎-elim (λ m. no-steps) (λ m. read (stopped broken (c ∷ b)) (AtomReads.no-atom (NotAt.other m))) (oneOf c atomBytes))))))))
 
-    readFilter : (k n : ℕ) (b : Bytes) → Reading (FilterReads limit n b)
+    pub readFilter : (k n : ℕ) (b : Bytes) → Reading (FilterReads limit n b)
     readFilter zero n b = no-steps
     readFilter (suc k) n b =
         chain (readConjunction k n b) (λ f more d. carry (λ r e. FilterReads.filter d e) (filterOn k n f more)) (λ s more d. read (stopped s more) (FilterReads.filter-stops d))

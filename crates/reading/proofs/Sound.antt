@@ -142,7 +142,7 @@ module _ {limit : ℕ} where
     heard-atom (round-deep l) = begun [] (40 ∷ 46 ∷ 41 ∷ []) refl (grammar.round (grammar.one-sequence (grammar.one-item (grammar.an-atom grammar.dot)))) bracket
     heard-atom (no-atom h) = begun [] (46 ∷ []) refl grammar.dot anything
 
-    heard-filter : {n : ℕ} {b : Bytes} {r : Result Filter} → FilterReads limit n b r → Heard FilterText b r
+    pub heard-filter : {n : ℕ} {b : Bytes} {r : Result Filter} → FilterReads limit n b r → Heard FilterText b r
     heard-filter (filter x y) = heard-filter-on y (lift (λ s w. grammar.one-conjunction w) (span (heard-conjunction x)))
     heard-filter (filter-stops x) = lift-stop (λ s f w. (f, grammar.one-conjunction w)) (heard-conjunction x)
 
