@@ -45,17 +45,17 @@ pub data Case : Type 0 where
   on-roll : Bytes → List ℕ → Case
   refused : Bytes → (number place : ℕ) → Case
 
--- A call comes out so, and in no other way, whatever room it is lent: the reply fits its promise, and what fits is this reply with the
--- room left so.
+-- A call that is lent `room` bytes or more comes out so, and in no other way: the reply fits its promise, and whatever fits is this
+-- reply, with the lent bytes left so.
 pub record ComesOut (room : ℕ) (Call : Bytes → Said → Bytes → Type 0) (said : Said) (Left : Bytes → Bytes → Type 0) : Type 0 where
   pub some : (before : Bytes) → room ≤ length before → (after : Bytes) × Call before said after
   pub only : (before : Bytes) {s : Said} {after : Bytes} → room ≤ length before → Call before s after → (s ≡ said) × Left before after
 
--- The bytes are in front in the room, and behind them it is as it was.
+-- The bytes are written, and those behind them are as they were.
 abbrev pub InFront : Bytes → Bytes → Bytes → Type 0
 InFront bytes before after = Written before bytes after
 
--- The bitmap of the nodes listed is in the room, and their number is the number of its ones.
+-- The bitmap of the nodes listed is written, and their number is the number of its ones.
 abbrev pub Drawn : List ℕ → Bytes → Bytes → Type 0
 Drawn answer before after = SetGiven (λ k. List·Memᴰ k answer) before (length answer) after
 
@@ -68,9 +68,9 @@ pub data Listed : ℕ → List Pair → Bytes → Bytes → Type 0 where
       → Listed n (x ∷ more) (x .parent ∷ x .child ∷ twoBytes (m - 1) ++ 0 ∷ 0 ∷ rs) (entryBytes (filterEntries n f) ++ es)
 
 -- The annotation and its filter table are those of the pairs, and are accepted.
-pub record AnnotatedBy (pairs : List Pair) (count : ℕ) (numbers : List ℕ) : Type 0 where
+pub record AnnotatedBy (pairs : List Pair) (many : ℕ) (numbers : List ℕ) : Type 0 where
   pub listed : Listed 0 pairs annotation filters
-  pub size : length (entries filters) ≡ count
+  pub size : length (entries filters) ≡ many
   pub named : map (λ r. r .filter) (records annotation) ≡ numbers
   pub accepted : Annotated annotation filters
 
@@ -92,12 +92,12 @@ pub record Refuses (text : Bytes) (number place : ℕ) : Type 0 where
 abbrev pub IsView : Tree → Type 0
 IsView = View (nodes roll) (Seen roll annotation filters)
 
--- And call 4 gives it.
+-- It is, and call 4 gives it.
 pub record Cuts (v : Tree) : Type 0 where
   pub is : IsView v
   pub given : ComesOut (length roll) (ViewCut roll annotation filters) (count (length v)) (InFront (nodeBytes v))
 
--- What a case says.
+-- What a case says. The curator's answer is the same on whatever is the view.
 unfoldable pub Holds : Case → Type 0
 Holds (annotated pairs size named) = AnnotatedBy pairs size named
 Holds (visible seen) = (i : ℕ) → i < length (nodes roll) → Seen roll annotation filters i ↔ List·Memᴰ i seen
@@ -106,6 +106,7 @@ Holds (curator text answer) = Answers IsView (CuratorAnswered roll annotation fi
 Holds (on-roll text answer) = Answers (λ t. t ≡ nodes roll) (Answered roll) text answer
 Holds (refused text number place) = Refuses text number place
 
+-- A pair of labels and the characters of its filter.
 abbrev pair : ℕ → ℕ → String → Pair
 pair parent child filter = record { parent = parent; child = child; filter = ascii filter }
 

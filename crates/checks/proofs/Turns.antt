@@ -33,7 +33,7 @@ module _ {First Both : Type 0} {F G : ℕ → ℕ → Type 0} where
     rest-checked both h = checked-as both (λ n p. behind right) h
 
 module _ {room given : ℕ} {Right : Type 0} {Fault : ℕ → ℕ → Type 0} {size : ℕ} where
-  -- "1: the output is shorter than the room named", before every other fault
+  -- 1, "the output is shorter than the room named", before every other fault
   pub short-room : {s : Said} → given < room → s ≡ refused 1 0 → Ready room given Right Fault size s
   short-room less e = rw e (ready.short less)
 

@@ -13,7 +13,7 @@ use Rattle.view.specs.Promise.{Annotated, AnnotatedFault}
 -- `size`: what is counted where all is in order.
 pub data Ready (room given : ℕ) (Right : Type 0) (Fault : ℕ → ℕ → Type 0) (size : ℕ) : Said → Type 0 where
   ready : room ≤ given → Right → Ready room given Right Fault size (count size)
-  -- "1: the output is shorter than the room named", before every other fault
+  -- 1, "the output is shorter than the room named", before every other fault
   short : given < room → Ready room given Right Fault size (refused 1 0)
   faulty : {n p : ℕ} → room ≤ given → Fault n p → Ready room given Right Fault size (refused n p)
 

@@ -17,7 +17,7 @@ ghost use Rattle.query.specs.Table.{entries};
 ghost use Rattle.view.specs.Annotation.{records, recordAt, RecordForm, AboveLast, RecordRight};
 ghost use Rattle.checks.specs.Checks.{RecordChecked, AnnotationChecked};
 
-// "annotation 0 to 32"
+// An annotation has 0 to 32 records.
 const MOST_RECORDS: usize = 32;
 
 // Whether record i has two labels, ends in zero bytes and names a filter entry.

@@ -15,7 +15,7 @@ ghost use Rattle.reply.specs.Reply.{said};
 ghost use Rattle.checks.specs.Checks.{AnnotatedChecked, AskedChecked};
 ghost use Rattle.checks.specs.Ready.{ReadyToAnswer, ReadyToCut, ReadyToRewrite, ReadyForCurator};
 
-// "an answer's bitmap; room 512 bytes"
+// "a bitmap of record numbers; room 512 bytes", and the same for view positions
 const BITMAP: usize = 512;
 
 // "Rewrite; room 6,144 bytes"

@@ -44,7 +44,7 @@ module _ (annotation filters query : Bytes) where
   on-view {roll} r x (turned-away {n = n} {p = p} room (first f)) = absurd (roll-wrong roll n p f r)
   on-view r x (turned-away room (behind good f)) = turned-away room f
 
-  -- Demand 3: "two rolls with equal views give her the same reply and the same 512 bytes"
+  -- Demand 3: two rolls with equal views give her the same reply and the same 512 bytes.
   pub equal-views : (roll roll′ before : Bytes) {v : Tree} {s u : Said} {x y : Bytes} → Roll roll → Roll roll′
       → View (nodes roll) (Seen roll annotation filters) v → View (nodes roll′) (Seen roll′ annotation filters) v
       → CuratorAnswered roll annotation filters query before s x → CuratorAnswered roll′ annotation filters query before u y → (s ≡ u) × (x ≡ y)

@@ -62,7 +62,7 @@ module _ (n : ℕ) where
           same-test (some-test n (λ i. and-test (passes (has s i)) (test i j)) (λ i x. below s e i (x .0)))
           (λ (i, x). (i, x .0, x .1), λ (i, x, a). (i, (x, a)))
 
-  -- a test of a property steps along "stay where it holds"
+  -- a test of a property steps along staying where it holds
   pub keep-steps : {P : ℕ → Type 0} (f : ℕ → Bool) → ((i : ℕ) → i < n → Decides (f i) (P i)) → Steps n (λ i j. (i ≡ j) × P i) (keep f)
   unfolding keep
   keep-steps f test = record {

@@ -11,15 +11,15 @@ pub record Limits : Type 0 where
   pub entries : ℕ
   pub height : ℕ
 
--- "curator's query 1 to 256, height 32"
+-- "curator's query": 1 to 256 entries, height 32
 abbrev pub curators : Limits
 curators = record { entries = 256; height = 32 }
 
--- "filter table 0 to 256, height 16"
+-- "filter table": 0 to 256 entries, height 16
 abbrev pub filters : Limits
 filters = record { entries = 256; height = 16 }
 
--- "rewritten query, or query answered on a roll 1 to 1,024, height 128"
+-- "rewritten query, or query answered on a roll": 1 to 1,024 entries, height 128
 abbrev pub answered : Limits
 answered = record { entries = 1024; height = 128 }
 
@@ -28,7 +28,7 @@ module _ (limit : Limits) (b : Bytes) where
     pub right : EntryRight (entries b) i
     pub low : heightAt (entries b) i ≤ limit .height
 
-  -- "8 entry malformed: kind, unused field, operand's number or sort, label"; "9 entry's height above the limit of its table"
+  -- 8, "entry malformed: kind, unused field, operand's number or sort, label"; 9, "entry's height above the limit of its table"
   pub data EntryFault : ℕ → ℕ → Type 0 where
     malformed : {i : ℕ} → ¬ EntryRight (entries b) i → EntryFault 8 i
     too-high : {i : ℕ} → EntryRight (entries b) i → limit .height < heightAt (entries b) i → EntryFault 9 i

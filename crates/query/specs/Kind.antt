@@ -28,7 +28,7 @@ pub record Row : Type 0 where
 abbrev row : ℕ → Kind → Sort → Operand → Operand → Row
 row number kind sort left right = record { number = number; kind = kind; sort = sort; left = left; right = right; label = false }
 
--- "16: label is the given one (1 to 64)": the one kind that uses its label field
+-- 16, "label is the given one (1 to 64)": the one kind that uses its label field
 abbrev label-row : Row
 label-row = record { number = 16; kind = labelled; sort = filter; left = unused; right = unused; label = true }
 

@@ -22,7 +22,7 @@ pub data InTurn (Right : Type 0) (First Behind : ℕ → ℕ → Type 0) : ℕ �
 -- `Done c after`: its work is done, with the count c and `after` in the lent bytes.
 pub data Outcome (room : ℕ) (Right : Type 0) (Fault : ℕ → ℕ → Type 0) (Done : ℕ → Bytes → Type 0) (before : Bytes) : Said → Bytes → Type 0 where
   done : {c : ℕ} {after : Bytes} → room ≤ length before → Right → Done c after → Outcome room Right Fault Done before (count c) after
-  -- "1: the output is shorter than the room named", before every other fault
+  -- 1, "the output is shorter than the room named", before every other fault
   short : length before < room → Outcome room Right Fault Done before (refused 1 0) before
   turned-away : {n p : ℕ} → room ≤ length before → Fault n p → Outcome room Right Fault Done before (refused n p) before
 

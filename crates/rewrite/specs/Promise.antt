@@ -15,8 +15,8 @@ use Rattle.view.specs.View.{View}
 use Rattle.view.specs.Same.{SameOnView}
 use Rattle.view.specs.Promise.{Seen, Annotated, AnnotatedFault}
 
--- Demand 3: "On every accepted roll, from every visible node, it reaches exactly what her query reaches on the cut-out view, and no
--- hidden node."
+-- Demand 3: on every accepted roll, from every visible node, it reaches exactly what her query reaches on the cut-out view, and no
+-- hidden node.
 unfoldable pub Faithful : Bytes → Bytes → Path → Path → Type 0
 Faithful annotation filters p q =
     (roll : Bytes) (v : Tree) → Roll roll → View (nodes roll) (Seen roll annotation filters) v → SameOnView (nodes roll) (Seen roll annotation filters) v p q

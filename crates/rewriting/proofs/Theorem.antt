@@ -15,7 +15,7 @@ use Rattle.rewriting.proofs.Axes.{Stands, grounds}
 
 module _ {t : Tree} (o : InOrder t) {Seen : ℕ → Type 0} (dec : (i : ℕ) → Dec (Seen i)) (root : Seen 0)
     (vis : Filter) (right : (i : ℕ) → i < length t → holds t vis i ↔ Seen i) {v : Tree} (view : View t Seen v) where
-  -- "From every visible node, it reaches exactly what her query reaches on the cut-out view, and no hidden node."
+  -- From every visible node, it reaches exactly what her query reaches on the cut-out view, and no hidden node.
   pub faithful : (p : Path) → SameOnView t Seen v (rewritten vis p) p
   unfolding SameOnView
   faithful p i a j l x = (there, back)

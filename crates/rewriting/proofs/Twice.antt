@@ -1,5 +1,6 @@
--- The theorem applied to its own result: a view on a view. Rewriting through the outer view and then through the inner one reaches, from
--- each node visible through both, exactly what the query reaches on the view cut out of the view. Assumes nothing.
+-- The theorem applied to its own result: a view on a view. The inner view is cut out of the outer one, and its filter speaks of that one.
+-- Rewriting through the inner view and then through the outer one reaches, from each node visible through both, exactly what the query
+-- reaches on the inner view. Assumes nothing.
 use Prim.Native.Nat.{ℕ, _<_}
 use mathlib.Core.Logic.{_↔_}
 use lib.ListN.{length}

@@ -45,7 +45,7 @@ unfoldable pub howMany : (ℕ → Bool) → Bytes → ℕ
 howMany is [] = 0
 howMany is (c ∷ more) = elim (is c) [ true ↦ suc (howMany is more) | false ↦ howMany is more ]
 
--- "15: a bracket is opened while 32 are open"
+-- 15, "a bracket is opened while 32 are open"
 pub record OneTooMany (text : Bytes) (i : ℕ) : Type 0 where
   pub within : i < length text
   pub bracket : T (opening (getD text i 0))

@@ -62,7 +62,7 @@ pub record Ready (text : Bytes) (at : ℕ) (table : Bytes) (n : ℕ) : Type 0 wh
   pub within : at ≤ length text
   pub room : 6 * (n + 2 * (length text - at)) ≤ length table
 
--- "15: a bracket is opened while 32 are open"
+-- 15, "a bracket is opened while 32 are open"
 abbrev pub mostOpen : ℕ
 mostOpen = 32
 

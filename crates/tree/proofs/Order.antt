@@ -74,7 +74,7 @@ module _ (t : Tree) (o : InOrder t) where
   unfolding InOrder
   above-le = above-le-to t (length t) o
 
-  -- "parents are smaller"
+  -- parents are smaller
   pub parent-smaller : (i : ℕ) → 0 < i → i < length t → parentAt t i < i
   unfolding InOrder
   parent-smaller = parent-smaller-to t (length t) o
@@ -119,7 +119,7 @@ module _ (t : Tree) (o : InOrder t) where
   above-before : {k i : ℕ} → suc i < length t → k ≤ i → Above t k (suc i) → Above t k i
   above-before l h x = let (p, c, y) = above-parent l x (omega arith) in above-trans t y (child-before refl c)
 
-  -- "a run has no gap"
+  -- a run has no gap
   pub no-gap : {k m j : ℕ} → j < length t → k ≤ m → m ≤ j → Above t k j → Above t k m
   no-gap {k} {m} {j} l b h a =
       le-ind (λ (i : ℕ). i < length t → Above t k i → Above t k m) (λ u x. x)

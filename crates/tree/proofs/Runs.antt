@@ -156,7 +156,7 @@ module _ (t : Tree) (o : InOrder t) where
   pub child-end : {p k : ℕ} → Child t p k → end t k ≤ end t p
   child-end c = above-end (c .node) (child-above t c)
 
-  -- "two runs are disjoint or one holds the other"
+  -- two runs are disjoint or one holds the other
   pub runs-nest : {a b : ℕ} → b < length t → a ≤ b → (end t a ≤ b) ⊎ (Above t a b × (end t b ≤ end t a))
   runs-nest {a} {b} l h =
       elim (decLe (end t a) b) [

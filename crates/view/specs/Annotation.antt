@@ -54,7 +54,7 @@ module _ (es : Entries) (b : Bytes) where
     pub form : RecordForm es (recordAt (records b) i)
     pub ascends : AboveLast (records b) i
 
-  -- "10: annotation label outside 1 to 64, last bytes not zero, or no filter entry named"; "11: pair not above the one before"
+  -- 10, "annotation label outside 1 to 64, last bytes not zero, or no filter entry named"; 11, "pair not above the one before"
   pub data RecordFault : ℕ → ℕ → Type 0 where
     malformed : {i : ℕ} → ¬ RecordForm es (recordAt (records b) i) → RecordFault 10 i
     not-above : {i : ℕ} → RecordForm es (recordAt (records b) i) → ¬ AboveLast (records b) i → RecordFault 11 i

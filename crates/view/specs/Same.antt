@@ -7,7 +7,7 @@ use Rattle.query.specs.Syntax.{Path}
 use Rattle.query.specs.Meaning.{reach}
 use Rattle.view.specs.View.{Position}
 
--- "From every visible node, it reaches exactly what her query reaches on the cut-out view, and no hidden node": p on the tree t does
+-- From every visible node, it reaches exactly what her query reaches on the cut-out view, and no hidden node: p on the tree t does
 -- what q does on the view v. The node i at view position a leads to j exactly where j is visible and its position is reached from a.
 unfoldable pub SameOnView : Tree → (ℕ → Type 0) → Tree → Path → Path → Type 0
 SameOnView t Seen v p q =
