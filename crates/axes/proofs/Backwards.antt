@@ -9,7 +9,8 @@ use Rattle.query.specs.Meaning.{reach, holds}
 use Rattle.query.proofs.Inside.{reach-inside}
 use Rattle.view.proofs.Nearest.{NextSeen}
 use Rattle.axes.proofs.Formulas.{no, hidden, skip, onwards, forwards, back, backwards}
-use Rattle.axes.proofs.Turn.{Turned, turn, turn-right, then-turned, either-turned, star-turned}
+use Rattle.query.specs.Turn.{turn}
+use Rattle.query.proofs.Turn.{Turned, turn-right, then-turned, either-turned, star-turned}
 use Rattle.axes.proofs.Sideways.{forwards-reaches}
 
 -- three relations one after another, grouped to the left, may be grouped to the right

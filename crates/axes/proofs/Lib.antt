@@ -1,5 +1,4 @@
 pub mod Formulas
-pub mod Turn
 pub mod Updown
 pub mod Beside
 pub mod Sideways

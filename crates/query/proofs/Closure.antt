@@ -10,6 +10,11 @@ pub star-keeps : {R : ℕ → ℕ → Type 0} (P : ℕ → Type 0) → ((i j : �
 star-keeps P keeps x stop = x
 star-keeps P keeps x (step r more) = star-keeps P keeps (keeps _ _ x r) more
 
+-- a star and a step more
+pub star-more : {R : ℕ → ℕ → Type 0} {i k j : ℕ} → Star R i k → R k j → Star R i j
+star-more stop last = step last stop
+star-more (step r more) last = step r (star-more more last)
+
 module _ (t : Tree) (p : Path) where
   -- "zero or more times": no step at all
   pub star-reflexive : (i : ℕ) → reach t (star p) i i

@@ -8,3 +8,5 @@ pub mod Answers
 pub mod Unique
 pub mod Tables
 pub mod Appended
+pub mod Turn
+pub mod Standing

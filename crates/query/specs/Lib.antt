@@ -3,3 +3,4 @@ pub mod Meaning
 pub mod Kind
 pub mod Table
 pub mod Fault
+pub mod Turn

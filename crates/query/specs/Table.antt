@@ -136,6 +136,11 @@ meanings es = readOn mean [] es
 unfoldable pub filterAt : Entries → ℕ → Filter
 filterAt es i = filterIn (meanings es) i
 
+-- the path that entry i stands for
+unfoldable pub pathAt : Entries → ℕ → Path
+pathAt es i = pathIn (meanings es) i
+
 -- "The last entry of a query table is the query".
 unfoldable pub queryOf : Entries → Path
-queryOf es = pathIn (meanings es) (length es - 1)
+unfolding pathAt
+queryOf es = pathAt es (length es - 1)

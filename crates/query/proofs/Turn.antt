@@ -3,9 +3,10 @@ use Prim.Native.Nat.{ℕ}
 use mathlib.Core.Path.{_≡_, sym}
 use mathlib.Core.Logic.{_↔_, _⊎_, ⊎-map, Iff·rfl, eq-comm}
 use Rattle.tree.specs.Tree.{Tree}
 use Rattle.query.specs.Syntax.{Path, self, child, parent, next, previous, stay, then, either, star}
 use Rattle.query.specs.Meaning.{Star, stop, step, reach, holds}
+use Rattle.query.specs.Turn.{turn}
 use Rattle.query.proofs.Closure.{star-keeps}
 
 -- S is the relation R turned round
 abbrev pub Turned : (ℕ → ℕ → Type 0) → (ℕ → ℕ → Type 0) → Type 0
@@ -31,18 +32,6 @@ either-turned d e i j = (⊎-map (d i j .0) (e i j .0), ⊎-map (d i j .1) (e i 
 -- where a filter stays, it stays turned round
 stay-back : (P : ℕ → Type 0) (i j : ℕ) → (i ≡ j) × P i → (j ≡ i) × P j
 stay-back P i j (e, h) = (sym e, rw e at h)
-
--- each axis swapped with its opposite, and each composition with its parts in the other order
-unfoldable pub turn : Path → Path
-turn self = self
-turn child = parent
-turn parent = child
-turn next = previous
-turn previous = next
-turn (stay f) = stay f
-turn (then p q) = then (turn q) (turn p)
-turn (either p q) = either (turn p) (turn q)
-turn (star p) = star (turn p)
 
 -- one law for every path, by induction on syntax
 pub turn-right : (t : Tree) (p : Path) (i j : ℕ) → reach t (turn p) i j ↔ reach t p j i
