@@ -1,5 +1,5 @@
 -- A test that computes whether bytes are a roll, and what a roll says of its tree. Assumes nothing.
-use Prim.Native.Nat.{ℕ, zero, suc, _%_, _<_}
+use Prim.Native.Nat.{ℕ, zero, suc, _%_, _≤_, _<_}
 use native.Mathlib.Omega.{arith}
 use mathlib.Core.Bool.{Bool}
 use mathlib.Core.List.{List, [], _∷_}
@@ -60,3 +60,7 @@ roll-in-order r i l = r .node (suc i) l .parent
 -- a roll has a root
 pub roll-root : {b : Bytes} → Roll b → 0 < length (nodes b)
 roll-root {b} r = omega (arith, count-nodes b)
+
+-- and at most 4,096 nodes
+pub roll-most : {b : Bytes} → Roll b → length (nodes b) ≤ 4096
+roll-most {b} r = omega (arith, count-nodes b)
