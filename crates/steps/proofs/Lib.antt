@@ -1,0 +1,3 @@
+pub mod Adding
+pub mod Reaching
+pub mod Members

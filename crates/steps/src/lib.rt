@@ -1,0 +1,11 @@
+// Steps from the members of a set: along an axis, and to where a label is. A step costs in proportion to the nodes it starts from
+// and reaches, not to the roll.
+mod along;
+mod axis;
+mod label;
+mod reach;
+
+pub use along::step;
+pub use axis::Axis;
+pub use axis::turned;
+pub use label::labelled;
