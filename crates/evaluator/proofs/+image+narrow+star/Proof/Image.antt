@@ -1,0 +1,185 @@
+-- `image` meets its contract, as a member of the cycle of calls: an arm for each kind of path, whose operands are asked in their turn.
+-- Assumes nothing.
+use Prim.Native.Nat.{ℕ, _*_}
+use native.Mathlib.Nat.{le-antisymm}
+use mathlib.Core.Path.{_≡_, sym, subst}
+use mathlib.Core.Bool.{Bool}
+use borrow.Author.Needs.{needs}
+use denote.Ref.{now}
+use lib.ListN.{length}
+use lib.Dec.{T}
+use Rattle.tree.specs.Tree.{Tree}
+use Rattle.roll.specs.Roll.{nodes}
+use Rattle.roll.proofs.Deciding.{roll-in-order}
+use Rattle.query.specs.Syntax.{Path}
+use Rattle.query.specs.Kind.{path}
+use Rattle.query.specs.Meaning.{reach}
+use Rattle.query.specs.Table.{entries}
+use Rattle.query.proofs.Standing.{path-kind}
+use Rattle.sets.specs.Sets.{Image, Inside}
+use Rattle.evaluator.specs.Evaluator.{Grounds, Asked, facing}
+use Rattle.evaluator.proofs.Images.{Stays, image-empty, image-inside}
+use Rattle.evaluator.proofs.Operands.{down, operand, operand-below, is-self, is-child, is-parent, is-next, is-previous, is-stay, is-then, is-either, is-star}
+use Rattle.evaluator.proofs.Walks.{walk-stays, walk-self, walk-stay, walk-then, walk-then-back, walk-either, walk-star}
+use Rattle.evaluator.proofs.+image+narrow+star.Proof.Measures.{image-at, image-below, narrow-below, star-below}
+use Rattle.evaluator.proofs.+image+narrow+star.Lts-image as lts
+use Rattle.evaluator.proofs.image.Reads as image
+use Rattle.evaluator.proofs.narrow.Reads as narrow
+use Rattle.evaluator.proofs.star.Reads as star
+use Rattle.sets.proofs.is_empty.Reads as is-empty
+use Rattle.sets.proofs.union.Reads as union
+use Rattle.sets.proofs.empty.Reads as empty
+use Rattle.tables.proofs.entry.entry_at.Reads as entry-at
+use Rattle.evaluator.proofs.along.Reads as along
+
+-- what its callees ask and say
+abbrev pub claims : ℕ → lts.Claims
+claims t = (is-empty.Asked, is-empty.Learnt, entry-at.Asked, entry-at.Learnt, along.Asked, along.Learnt, narrow-below t, narrow.Post, image-below t, image.Post, union.Asked, union.Learnt, star-below t, star.Post)
+
+module _ (t : ℕ) where
+  pub is-empty-requires : lts.Need-is-empty-requires (claims t) (image-at t) image.Post
+  is-empty-requires c κs = search needs
+
+  pub returns : lts.Need-returns (claims t) (image-at t) image.Post
+  returns c = image-empty (c .before .is-empty .ensures .0 (subst T (sym (c .if1 .taken)) tt))
+
+  pub entry-at-requires : lts.Need-entry-at-requires (claims t) (image-at t) image.Post
+  entry-at-requires c κs = search needs
+
+  -- the entry is read: what the function was given, and what it has read
+  module _ (c : lts.After-entry-at (claims t) (image-at t) image.Post) where
+    abbrev start : lts.Start (claims t) (image-at t) image.Post
+    start = c .before .before .before .before .before
+
+    abbrev tree : Tree
+    tree = nodes (now (start .args .roll))
+
+    given : Grounds (now (start .args .roll)) (now (start .args .table)) (now (start .args .next)) (now (start .args .previous))
+    given = start .pre .1 .0
+
+    asked : Asked (now (start .args .roll)) (now (start .args .table)) path (start .args .e) (start .args .from)
+    asked = start .pre .1 .1
+
+    measured : 2 * start .args .e ≡ t
+    measured = start .pre .0
+
+    stays : (p : Path) → Stays (length tree) (reach tree p)
+    stays p = walk-stays tree (roll-in-order (given .roll-right)) p
+
+  -- one step along each axis
+  pub along-requires : lts.Need-along-requires (claims t) (image-at t) image.Post
+  along-requires c κs = let g = given (c .before) in (g .roll-right, g .links)
+
+  pub along-requires-2 : lts.Need-along-requires-2 (claims t) (image-at t) image.Post
+  along-requires-2 c κs = let g = given (c .before) in (g .roll-right, g .links)
+
+  pub along-requires-3 : lts.Need-along-requires-3 (claims t) (image-at t) image.Post
+  along-requires-3 c κs = let g = given (c .before) in (g .roll-right, g .links)
+
+  pub along-requires-4 : lts.Need-along-requires-4 (claims t) (image-at t) image.Post
+  along-requires-4 c κs = let g = given (c .before) in (g .roll-right, g .links)
+
+  pub returns-2 : lts.Need-returns-2 (claims t) (image-at t) image.Post
+  returns-2 c = let k = c .before .before in rw (is-child (given k) (asked k) (k .entry-at .ensures) (c .before .match .keys1)) (c .along .ensures)
+
+  pub returns-3 : lts.Need-returns-3 (claims t) (image-at t) image.Post
+  returns-3 c = let k = c .before .before in rw (is-parent (given k) (asked k) (k .entry-at .ensures) (c .before .match .keys2)) (c .along2 .ensures)
+
+  pub returns-4 : lts.Need-returns-4 (claims t) (image-at t) image.Post
+  returns-4 c = let k = c .before .before in rw (is-next (given k) (asked k) (k .entry-at .ensures) (c .before .match .keys3)) (c .along3 .ensures)
+
+  pub returns-5 : lts.Need-returns-5 (claims t) (image-at t) image.Post
+  returns-5 c = let k = c .before .before in rw (is-previous (given k) (asked k) (k .entry-at .ensures) (c .before .match .keys4)) (c .along4 .ensures)
+
+  -- stay if the filter holds
+  pub narrow-requires : lts.Need-narrow-requires (claims t) (image-at t) image.Post
+  narrow-requires c κs =
+      let k = c .before in
+      operand-below (given k) (asked k) (k .entry-at .ensures) (is-stay (given k) (asked k) (k .entry-at .ensures) (c .match .keys5) .0) (asked k .nodes-only) (measured k)
+
+  pub returns-6 : lts.Need-returns-6 (claims t) (image-at t) image.Post
+  returns-6 c =
+      let k = c .before .before in
+      rw (is-stay (given k) (asked k) (k .entry-at .ensures) (c .before .match .keys5) .1) (walk-stay (tree k) (start k .args .back) _ (c .narrow .ensures))
+
+  -- left, then right: backwards the right path comes first
+  pub image-requires : lts.Need-image-requires (claims t) (image-at t) image.Post
+  image-requires c κs =
+      let k = c .before .before in
+      operand-below (given k) (asked k) (k .entry-at .ensures) (is-then (given k) (asked k) (k .entry-at .ensures) (c .before .match .keys6) .0 .1) (asked k .nodes-only) (measured k)
+
+  pub image-requires-2 : lts.Need-image-requires-2 (claims t) (image-at t) image.Post
+  image-requires-2 c κs =
+      let k = c .before .before .before in
+      let inside = image-inside (stays k _) (asked k .nodes-only) (c .image .ensures) in
+      operand-below (given k) (asked k) (k .entry-at .ensures) (is-then (given k) (asked k) (k .entry-at .ensures) (c .before .before .match .keys6) .0 .0) inside (measured k)
+
+  pub returns-7 : lts.Need-returns-7 (claims t) (image-at t) image.Post
+  returns-7 c =
+      let first = c .before in
+      let k = first .before .before .before in
+      rw (is-then (given k) (asked k) (k .entry-at .ensures) (first .before .before .match .keys6) .1)
+      (walk-then-back (tree k) _ _ (start k .args .back) (first .before .if2 .taken) (first .image .ensures) (c .image2 .ensures))
+
+  -- and forwards the left one
+  pub image-requires-3 : lts.Need-image-requires-3 (claims t) (image-at t) image.Post
+  image-requires-3 c κs =
+      let k = c .before .before in
+      operand-below (given k) (asked k) (k .entry-at .ensures) (is-then (given k) (asked k) (k .entry-at .ensures) (c .before .match .keys6) .0 .0) (asked k .nodes-only) (measured k)
+
+  pub image-requires-4 : lts.Need-image-requires-4 (claims t) (image-at t) image.Post
+  image-requires-4 c κs =
+      let k = c .before .before .before in
+      let inside = image-inside (stays k _) (asked k .nodes-only) (c .image3 .ensures) in
+      operand-below (given k) (asked k) (k .entry-at .ensures) (is-then (given k) (asked k) (k .entry-at .ensures) (c .before .before .match .keys6) .0 .1) inside (measured k)
+
+  pub returns-8 : lts.Need-returns-8 (claims t) (image-at t) image.Post
+  returns-8 c =
+      let first = c .before in
+      let k = first .before .before .before in
+      rw (is-then (given k) (asked k) (k .entry-at .ensures) (first .before .before .match .keys6) .1)
+      (walk-then (tree k) _ _ (start k .args .back) (first .before .if2 .left) (first .image3 .ensures) (c .image4 .ensures))
+
+  -- left or right
+  pub image-requires-5 : lts.Need-image-requires-5 (claims t) (image-at t) image.Post
+  image-requires-5 c κs =
+      let k = c .before in
+      operand-below (given k) (asked k) (k .entry-at .ensures) (is-either (given k) (asked k) (k .entry-at .ensures) (c .match .keys7) .0 .0) (asked k .nodes-only) (measured k)
+
+  pub image-requires-6 : lts.Need-image-requires-6 (claims t) (image-at t) image.Post
+  image-requires-6 c κs =
+      let k = c .before .before in
+      operand-below (given k) (asked k) (k .entry-at .ensures) (is-either (given k) (asked k) (k .entry-at .ensures) (c .before .match .keys7) .0 .1) (asked k .nodes-only) (measured k)
+
+  pub union-requires : lts.Need-union-requires (claims t) (image-at t) image.Post
+  union-requires c κs = search needs
+
+  pub returns-9 : lts.Need-returns-9 (claims t) (image-at t) image.Post
+  returns-9 c =
+      let other = c .before in
+      let one = other .before in
+      let k = one .before .before in
+      rw (is-either (given k) (asked k) (k .entry-at .ensures) (one .before .match .keys7) .1)
+      (walk-either (tree k) _ _ (start k .args .back) (one .image5 .ensures) (other .image6 .ensures) (c .union .ensures))
+
+  -- zero or more times
+  pub star-requires : lts.Need-star-requires (claims t) (image-at t) image.Post
+  star-requires c κs =
+      let k = c .before in
+      operand (given k) (asked k) (k .entry-at .ensures) (is-star (given k) (asked k) (k .entry-at .ensures) (c .match .keys8) .0) (asked k .nodes-only) (measured k)
+
+  pub returns-10 : lts.Need-returns-10 (claims t) (image-at t) image.Post
+  returns-10 c =
+      let k = c .before .before in
+      rw (is-star (given k) (asked k) (k .entry-at .ensures) (c .before .match .keys8) .1) (walk-star (tree k) (start k .args .back) _ (c .star .ensures))
+
+  -- self is the one path that is left
+  pub returns-11 : lts.Need-returns-11 (claims t) (image-at t) image.Post
+  returns-11 c =
+      let k = c .before in
+      let numbers = rw (← k .entry-at .ensures .kind) at (path-kind (entries (now (start k .args .table))) (start k .args .e) (asked k .sort)) in
+      let left = c .match .rest in
+      let to-five = down 6 (down 7 (down 8 (down 9 (numbers .1) (left .1)) (left .0 .1)) (left .0 .0 .1)) (left .0 .0 .0 .1) in
+      let to-one = down 2 (down 3 (down 4 (down 5 to-five (left .0 .0 .0 .0 .1)) (left .0 .0 .0 .0 .0 .1)) (left .0 .0 .0 .0 .0 .0 .1)) (left .0 .0 .0 .0 .0 .0 .0 .1) in
+      let is = le-antisymm to-one (numbers .0) in
+      rw (is-self (given k) (asked k) (k .entry-at .ensures) is) (walk-self (tree k) (start k .args .back))

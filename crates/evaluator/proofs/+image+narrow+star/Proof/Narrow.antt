@@ -1,0 +1,187 @@
+-- `narrow` meets its contract, as a member of the cycle of calls: an arm for each kind of filter, whose operands are asked in their turn.
+-- Assumes nothing.
+use Prim.Native.Nat.{ℕ, _*_}
+use native.Mathlib.Omega.{arith}
+use mathlib.Core.Path.{_≡_, sym, subst}
+use borrow.Author.Needs.{needs}
+use denote.Ref.{now}
+use lib.ListN.{length}
+use lib.Dec.{T}
+use Rattle.tree.specs.Tree.{Tree}
+use Rattle.roll.specs.Roll.{nodes}
+use Rattle.roll.proofs.Deciding.{roll-in-order, roll-most}
+use Rattle.query.specs.Syntax.{Path}
+use Rattle.query.specs.Kind.{filter}
+use Rattle.query.specs.Meaning.{reach, holds}
+use Rattle.query.specs.Table.{entries, pathAt}
+use Rattle.query.proofs.Standing.{filter-kind}
+use Rattle.query.proofs.Turn.{turn-right}
+use Rattle.sets.specs.Sets.{Inside}
+use Rattle.evaluator.specs.Evaluator.{Grounds, Asked}
+use Rattle.evaluator.proofs.Images.{Stays, narrowed-inside}
+use Rattle.evaluator.proofs.Filters.{narrow-empty, narrow-always, narrow-never, narrow-leads, narrow-not, narrow-and, narrow-or}
+use Rattle.evaluator.proofs.Operands.{operand-below, is-labelled, is-leads, is-always, is-never, is-not, is-and, is-or}
+use Rattle.evaluator.proofs.Walks.{walk-stays}
+use Rattle.evaluator.proofs.+image+narrow+star.Proof.Measures.{narrow-at, image-below, narrow-below}
+use Rattle.evaluator.proofs.+image+narrow+star.Lts-narrow as lts
+use Rattle.evaluator.proofs.image.Reads as image
+use Rattle.evaluator.proofs.narrow.Reads as narrow
+use Rattle.sets.proofs.is_empty.Reads as is-empty
+use Rattle.sets.proofs.union.Reads as union
+use Rattle.sets.proofs.common.Reads as common
+use Rattle.sets.proofs.difference.Reads as difference
+use Rattle.sets.proofs.below.Reads as below
+use Rattle.sets.proofs.empty.Reads as empty
+use Rattle.steps.proofs.labelled.Reads as labelled
+use Rattle.roll.proofs.count.Reads as count
+use Rattle.tables.proofs.entry.entry_at.Reads as entry-at
+
+-- what its callees ask and say
+abbrev pub claims : ℕ → lts.Claims
+claims t = (is-empty.Asked, is-empty.Learnt, entry-at.Asked, entry-at.Learnt, labelled.Asked, labelled.Learnt, count.Asked, count.Learnt, below.Asked, below.Learnt, image-below t, image.Post, common.Asked, common.Learnt, narrow-below t, narrow.Post, difference.Asked, difference.Learnt, union.Asked, union.Learnt, empty.Asked, empty.Learnt)
+
+module _ (t : ℕ) where
+  pub is-empty-requires : lts.Need-is-empty-requires (claims t) (narrow-at t) narrow.Post
+  is-empty-requires c κs = search needs
+
+  pub returns : lts.Need-returns (claims t) (narrow-at t) narrow.Post
+  returns c = narrow-empty (c .before .is-empty .ensures .0 (subst T (sym (c .if1 .taken)) tt))
+
+  pub entry-at-requires : lts.Need-entry-at-requires (claims t) (narrow-at t) narrow.Post
+  entry-at-requires c κs = search needs
+
+  -- the entry is read: what the function was given, and what it has read
+  module _ (c : lts.After-entry-at (claims t) (narrow-at t) narrow.Post) where
+    abbrev start : lts.Start (claims t) (narrow-at t) narrow.Post
+    start = c .before .before .before .before .before
+
+    abbrev tree : Tree
+    tree = nodes (now (start .args .roll))
+
+    given : Grounds (now (start .args .roll)) (now (start .args .table)) (now (start .args .next)) (now (start .args .previous))
+    given = start .pre .1 .0
+
+    asked : Asked (now (start .args .roll)) (now (start .args .table)) filter (start .args .e) (start .args .from)
+    asked = start .pre .1 .1
+
+    measured : 2 * start .args .e ≡ t
+    measured = start .pre .0
+
+    stays : (p : Path) → Stays (length tree) (reach tree p)
+    stays p = walk-stays tree (roll-in-order (given .roll-right)) p
+
+  -- label is the given one
+  pub labelled-requires : lts.Need-labelled-requires (claims t) (narrow-at t) narrow.Post
+  labelled-requires c κs = search needs
+
+  pub returns-2 : lts.Need-returns-2 (claims t) (narrow-at t) narrow.Post
+  unfolding holds
+  returns-2 c =
+      let k = c .before .before in
+      rw (is-labelled (given k) (asked k) (k .entry-at .ensures) (c .before .match .keys1)) (c .labelled .ensures)
+
+  -- left leads somewhere
+  pub count-requires : lts.Need-count-requires (claims t) (narrow-at t) narrow.Post
+  count-requires c κs = search needs
+
+  pub below-requires : lts.Need-below-requires (claims t) (narrow-at t) narrow.Post
+  below-requires c κs =
+      let k = c .before .before in
+      omega (arith, c .count .ensures, roll-most (given k .roll-right))
+
+  pub image-requires : lts.Need-image-requires (claims t) (narrow-at t) narrow.Post
+  image-requires c κs =
+      let k = c .before .before .before in
+      let inside : Inside (length (tree k)) (c .below .result) = λ i x. rw (c .before .count .ensures) at (c .below .ensures .exact i .0 x) in
+      operand-below (given k) (asked k) (k .entry-at .ensures) (is-leads (given k) (asked k) (k .entry-at .ensures) (c .before .before .match .keys2) .0) inside (measured k)
+
+  pub common-requires : lts.Need-common-requires (claims t) (narrow-at t) narrow.Post
+  common-requires c κs = search needs
+
+  pub returns-3 : lts.Need-returns-3 (claims t) (narrow-at t) narrow.Post
+  unfolding holds
+  returns-3 c =
+      let ends = c .before in
+      let all = ends .before in
+      let k = all .before .before .before in
+      let p = pathAt (entries (now (start k .args .table))) (k .entry-at .result .left) in
+      rw (is-leads (given k) (asked k) (k .entry-at .ensures) (all .before .before .match .keys2) .1)
+      (narrow-leads (turn-right (tree k) p) (stays k p) (asked k .nodes-only) (rw (all .before .count .ensures) at (all .below .ensures)) (ends .image .ensures) (c .common .ensures))
+
+  -- true
+  pub returns-4 : lts.Need-returns-4 (claims t) (narrow-at t) narrow.Post
+  unfolding holds
+  returns-4 c = let k = c .before in rw (is-always (given k) (asked k) (k .entry-at .ensures) (c .match .keys3)) narrow-always
+
+  -- not
+  pub narrow-requires : lts.Need-narrow-requires (claims t) (narrow-at t) narrow.Post
+  narrow-requires c κs =
+      let k = c .before in
+      operand-below (given k) (asked k) (k .entry-at .ensures) (is-not (given k) (asked k) (k .entry-at .ensures) (c .match .keys4) .0) (asked k .nodes-only) (measured k)
+
+  pub difference-requires : lts.Need-difference-requires (claims t) (narrow-at t) narrow.Post
+  difference-requires c κs = search needs
+
+  pub returns-5 : lts.Need-returns-5 (claims t) (narrow-at t) narrow.Post
+  unfolding holds
+  returns-5 c =
+      let k = c .before .before .before in
+      rw (is-not (given k) (asked k) (k .entry-at .ensures) (c .before .before .match .keys4) .1) (narrow-not (c .before .narrow .ensures) (c .difference .ensures))
+
+  -- and
+  pub narrow-requires-2 : lts.Need-narrow-requires-2 (claims t) (narrow-at t) narrow.Post
+  narrow-requires-2 c κs =
+      let k = c .before in
+      operand-below (given k) (asked k) (k .entry-at .ensures) (is-and (given k) (asked k) (k .entry-at .ensures) (c .match .keys5) .0 .0) (asked k .nodes-only) (measured k)
+
+  pub narrow-requires-3 : lts.Need-narrow-requires-3 (claims t) (narrow-at t) narrow.Post
+  narrow-requires-3 c κs =
+      let k = c .before .before in
+      let inside = narrowed-inside (asked k .nodes-only) (c .narrow2 .ensures) in
+      operand-below (given k) (asked k) (k .entry-at .ensures) (is-and (given k) (asked k) (k .entry-at .ensures) (c .before .match .keys5) .0 .1) inside (measured k)
+
+  pub returns-6 : lts.Need-returns-6 (claims t) (narrow-at t) narrow.Post
+  unfolding holds
+  returns-6 c =
+      let k = c .before .before .before in
+      rw (is-and (given k) (asked k) (k .entry-at .ensures) (c .before .before .match .keys5) .1) (narrow-and (c .before .narrow2 .ensures) (c .narrow3 .ensures))
+
+  -- or
+  pub narrow-requires-4 : lts.Need-narrow-requires-4 (claims t) (narrow-at t) narrow.Post
+  narrow-requires-4 c κs =
+      let k = c .before in
+      operand-below (given k) (asked k) (k .entry-at .ensures) (is-or (given k) (asked k) (k .entry-at .ensures) (c .match .keys6) .0 .0) (asked k .nodes-only) (measured k)
+
+  pub difference-requires-2 : lts.Need-difference-requires-2 (claims t) (narrow-at t) narrow.Post
+  difference-requires-2 c κs = search needs
+
+  pub narrow-requires-5 : lts.Need-narrow-requires-5 (claims t) (narrow-at t) narrow.Post
+  narrow-requires-5 c κs =
+      let k = c .before .before .before in
+      let inside = narrowed-inside (asked k .nodes-only) (c .difference2 .ensures) in
+      operand-below (given k) (asked k) (k .entry-at .ensures) (is-or (given k) (asked k) (k .entry-at .ensures) (c .before .before .match .keys6) .0 .1) inside (measured k)
+
+  pub union-requires : lts.Need-union-requires (claims t) (narrow-at t) narrow.Post
+  union-requires c κs = search needs
+
+  pub returns-7 : lts.Need-returns-7 (claims t) (narrow-at t) narrow.Post
+  unfolding holds
+  returns-7 c =
+      let second = c .before in
+      let rest = second .before in
+      let first = rest .before in
+      let k = first .before .before in
+      rw (is-or (given k) (asked k) (k .entry-at .ensures) (first .before .match .keys6) .1)
+      (narrow-or (first .narrow4 .ensures) (rest .difference2 .ensures) (second .narrow5 .ensures) (c .union .ensures))
+
+  -- false is the one filter that is left
+  pub empty-requires : lts.Need-empty-requires (claims t) (narrow-at t) narrow.Post
+  empty-requires c κs = search needs
+
+  pub returns-8 : lts.Need-returns-8 (claims t) (narrow-at t) narrow.Post
+  unfolding holds
+  returns-8 c =
+      let k = c .before .before in
+      let numbers = rw (← k .entry-at .ensures .kind) at (filter-kind (entries (now (start k .args .table))) (start k .args .e) (asked k .sort)) in
+      let is : k .entry-at .result .kind ≡ 19 = omega (arith, numbers, c .before .match .rest) in
+      rw (is-never (given k) (asked k) (k .entry-at .ensures) is) (narrow-never (c .empty .ensures))

@@ -1,0 +1,91 @@
+-- `star` meets its contract, as a member of the cycle of calls: between two rounds `Rounds` holds, and each round adds a node to those gone on from.
+-- Assumes nothing.
+use Prim.Native.Nat.{ℕ, _-_}
+use native.Mathlib.Omega.{arith}
+use mathlib.Core.Path.{_≡_, sym, subst}
+use mathlib.Core.Logic.{inr}
+use borrow.Author.Needs.{needs}
+use denote.Ref.{now}
+use lib.ListN.{length}
+use lib.Dec.{T}
+use Rattle.roll.specs.Roll.{nodes}
+use Rattle.roll.proofs.Deciding.{roll-in-order, roll-most}
+use Rattle.query.specs.Kind.{path}
+use Rattle.query.specs.Meaning.{reach}
+use Rattle.query.specs.Table.{entries, pathAt}
+use Rattle.sets.proofs.Size.{sizeOf, size-most}
+use Rattle.tree.proofs.Tests.{test-failed, test-passed}
+use Rattle.evaluator.specs.Evaluator.{Grounds, Asked, facing}
+use Rattle.evaluator.proofs.Rounds.{Rounds, first-round, next-round, round-adds, last-round}
+use Rattle.evaluator.proofs.Walks.{walk-stays}
+use Rattle.evaluator.proofs.+image+narrow+star.Proof.Measures.{star-at, image-below}
+use Rattle.evaluator.proofs.+image+narrow+star.Lts-star as lts
+use Rattle.evaluator.proofs.image.Reads as image
+use Rattle.evaluator.proofs.star.Reads as star
+use Rattle.sets.proofs.is_empty.Reads as is-empty
+use Rattle.sets.proofs.union.Reads as union
+use Rattle.sets.proofs.difference.Reads as difference
+use Rattle.sets.proofs.empty.Reads as empty
+
+-- what its callees ask and say
+abbrev pub claims : ℕ → lts.Claims
+claims t = (empty.Asked, empty.Learnt, is-empty.Asked, is-empty.Learnt, union.Asked, union.Learnt, image-below t, image.Post, difference.Asked, difference.Learnt)
+
+abbrev pub Inv-loop : lts.InvT-loop
+Inv-loop roll next previous table e back all₀ fresh₀ all fresh =
+    Rounds (length (nodes roll)) (reach (nodes roll) (facing back (pathAt (entries table) e))) fresh₀ all fresh
+
+abbrev pub μ-loop : lts.MeasureT-loop
+μ-loop roll next previous table e back all₀ fresh₀ all fresh = 4096 - sizeOf all
+
+module _ (t : ℕ) where
+  -- at the loop's head: what the function was given
+  module _ (c : lts.At-loop (claims t) (star-at t) star.Post Inv-loop μ-loop) where
+    abbrev start : lts.Start (claims t) (star-at t) star.Post Inv-loop μ-loop
+    start = c .before .before .before .before
+
+    given : Grounds (now (start .args .roll)) (now (start .args .table)) (now (start .args .next)) (now (start .args .previous))
+    given = start .pre .1 .0
+
+    asked : Asked (now (start .args .roll)) (now (start .args .table)) path (start .args .e) (start .args .from)
+    asked = start .pre .1 .1
+
+  pub empty-requires : lts.Need-empty-requires (claims t) (star-at t) star.Post Inv-loop μ-loop
+  empty-requires c κs = search needs
+
+  pub loop-holds : lts.Need-loop-holds (claims t) (star-at t) star.Post Inv-loop μ-loop
+  loop-holds c = first-round (c .before .before .before .pre .1 .1 .nodes-only) (c .empty .ensures)
+
+  pub is-empty-requires : lts.Need-is-empty-requires (claims t) (star-at t) star.Post Inv-loop μ-loop
+  is-empty-requires c κs = search needs
+
+  pub union-requires : lts.Need-union-requires (claims t) (star-at t) star.Post Inv-loop μ-loop
+  union-requires c κs = search needs
+
+  pub image-requires : lts.Need-image-requires (claims t) (star-at t) star.Post Inv-loop μ-loop
+  image-requires c κs =
+      let head = c .before .before .before in
+      let asks = asked head in
+      (omega (arith, start head .pre .0), (given head, record { within = asks .within; sort = asks .sort; nodes-only = λ k x. head .loop .inv .nodes-only k (inr x) }))
+
+  pub difference-requires : lts.Need-difference-requires (claims t) (star-at t) star.Post Inv-loop μ-loop
+  difference-requires c κs = search needs
+
+  pub loop-less : lts.Need-loop-less (claims t) (star-at t) star.Post Inv-loop μ-loop
+  loop-less c =
+      let united = c .before .before in
+      let tested = united .before .before in
+      let some = test-failed (tested .is-empty .result) (tested .is-empty .ensures) (united .before .if1 .taken) in
+      let most = roll-most (given (tested .before) .roll-right) in
+      let more = round-adds (tested .before .loop .inv) most some (united .union .ensures) in
+      omega (arith, size-most (united .union .result))
+
+  pub loop-again : lts.Need-loop-again (claims t) (star-at t) star.Post Inv-loop μ-loop
+  loop-again c =
+      let united = c .before .before in
+      let head = united .before .before .before in
+      next-round (head .loop .inv) (walk-stays _ (roll-in-order (given head .roll-right)) _) (united .union .ensures) (c .before .image .ensures) (c .difference .ensures)
+
+  pub returns : lts.Need-returns (claims t) (star-at t) star.Post Inv-loop μ-loop
+  unfolding reach
+  returns c = last-round (c .before .before .loop .inv) (test-passed (c .before .is-empty .result) (c .before .is-empty .ensures) (c .if1 .left))
