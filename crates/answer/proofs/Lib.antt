@@ -1,2 +1,4 @@
 pub mod Unique
 pub mod Drawn
+pub mod Giving
+pub mod Asking

@@ -13,7 +13,8 @@ use Rattle.reply.proofs.Unique.{in-turn-wrong, in-turn-one, outcome-one, writte
 use Rattle.roll.proofs.Unique.{roll-wrong, roll-one}
 use Rattle.query.specs.Fault.{answered}
 use Rattle.query.proofs.Unique.{query-wrong, query-one}
-use Rattle.answer.specs.Bitmap.{bit, Bitmap, ones, SetGiven}
+use Rattle.answer.specs.Bitmap.{bit, Bitmap, SetGiven}
+use Rattle.sets.specs.Bits.{ones}
 use Rattle.answer.specs.Promise.{Answered}
 
 -- two digits that are 1 in the same cases are equal

@@ -1,2 +1,3 @@
 pub mod Bitmap
 pub mod Promise
+pub mod Given

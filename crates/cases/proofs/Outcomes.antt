@@ -18,7 +18,8 @@ use Rattle.text.specs.Promise.{TextOf, TextFault, TextRead}
 use Rattle.reading.proofs.Back.{table-back, query-back}
 use Rattle.reading.proofs.Accepted.{bytes-length, text-query}
 use Rattle.reading.proofs.Unique.{text-read-one}
-use Rattle.answer.specs.Bitmap.{Bitmap, ones, SetGiven}
+use Rattle.answer.specs.Bitmap.{Bitmap, SetGiven}
+use Rattle.sets.specs.Bits.{ones}
 use Rattle.answer.proofs.Drawn.{drawn, drawn-right}
 use Rattle.cases.specs.Cases.{ComesOut, InFront, Drawn, Answers}
 use Rattle.cases.proofs.Tests.{isIn, is-in}

@@ -23,7 +23,8 @@ use Rattle.reading.proofs.Rules.{Result, got, stopped, broken, deep, PathReads}
 use Rattle.reading.proofs.Deciding as reading
 use Rattle.reading.proofs.Deciding.{Reading, no-steps, readText}
 use Rattle.reading.proofs.Judged.{Judged, read, not-whole, judged, read-whole}
-use Rattle.answer.specs.Bitmap.{ones}
+use Rattle.answer.specs.Bitmap.{}
+use Rattle.sets.specs.Bits.{ones}
 use Rattle.view.specs.Annotation.{records}
 use Rattle.view.specs.Promise.{Seen}
 use Rattle.cases.specs.Worked.{roll, annotation, filters, view}
