@@ -13,3 +13,4 @@ pub use merge::difference;
 pub use merge::union;
 pub use test::count;
 pub use test::is_empty;
+pub use test::member;
