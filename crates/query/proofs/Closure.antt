@@ -10,6 +10,11 @@ pub star-keeps : {R : ℕ → ℕ → Type 0} (P : ℕ → Type 0) → ((i j : �
 star-keeps P keeps x stop = x
 star-keeps P keeps x (step r more) = star-keeps P keeps (keeps _ _ x r) more
 
+-- a star of one relation is a star of another that holds wherever the first does
+pub star-map : {R S : ℕ → ℕ → Type 0} → ((i j : ℕ) → R i j → S i j) → {i j : ℕ} → Star R i j → Star S i j
+star-map f stop = stop
+star-map f (step r more) = step (f _ _ r) (star-map f more)
+
 -- a star and a step more
 pub star-more : {R : ℕ → ℕ → Type 0} {i k j : ℕ} → Star R i k → R k j → Star R i j
 star-more stop last = step last stop

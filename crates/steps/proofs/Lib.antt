@@ -1,3 +1,4 @@
 pub mod Adding
 pub mod Reaching
 pub mod Members
+pub mod Sweeping

@@ -4,8 +4,10 @@ mod along;
 mod axis;
 mod label;
 mod reach;
+mod star;
 
 pub use along::step;
 pub use axis::Axis;
 pub use axis::turned;
 pub use label::labelled;
+pub use star::sweep;
