@@ -33,14 +33,14 @@ module _ {roll tab : Bytes} {next previous : List ℕ} {s : Sort} {e : ℕ} {fro
   right : EntryRight (entries tab) e
   right = g .each e (a .within)
 
-  -- An operand is asked of a set of nodes. It is an earlier entry, so twice its number, and one more for a star above it, is below twice e.
-  pub operand : {o : Sort} {x t : ℕ} {set : List ℕ} → OperandField (entries tab) e (of o) x → Inside (length (nodes roll)) set → 2 * e ≡ t
-      → (2 * x + 1 < t) × (Grounds roll tab next previous × Asked roll tab o x set)
+  -- An operand is asked of a set of nodes. It is an earlier entry, so three times its number, and two more for a star above it, is below three times e.
+  pub operand : {o : Sort} {x t : ℕ} {set : List ℕ} → OperandField (entries tab) e (of o) x → Inside (length (nodes roll)) set → 3 * e ≡ t
+      → (3 * x + 2 < t) × (Grounds roll tab next previous × Asked roll tab o x set)
   unfolding OperandField
   operand (l, h) inside m = (omega arith, (g, record { within = omega (arith, a .within); sort = h; nodes-only = inside }))
 
-  pub operand-below : {o : Sort} {x t : ℕ} {set : List ℕ} → OperandField (entries tab) e (of o) x → Inside (length (nodes roll)) set → 2 * e ≡ t
-      → (2 * x < t) × (Grounds roll tab next previous × Asked roll tab o x set)
+  pub operand-below : {o : Sort} {x t : ℕ} {set : List ℕ} → OperandField (entries tab) e (of o) x → Inside (length (nodes roll)) set → 3 * e ≡ t
+      → (3 * x < t) × (Grounds roll tab next previous × Asked roll tab o x set)
   operand-below o inside m = let (l, more) = operand o inside m in (omega arith, more)
 
   -- what the entry stands for

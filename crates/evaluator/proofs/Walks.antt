@@ -2,7 +2,7 @@
 use Prim.Native.Nat.{ℕ}
 use native.Mathlib.Omega.{arith}
 use mathlib.Core.Path.{_≡_}
-use mathlib.Core.Logic.{_↔_, _⊎_, Iff·rfl, Iff·symm, Iff·trans}
+use mathlib.Core.Logic.{_↔_, _⊎_, Iff·rfl}
 use mathlib.Core.Bool.{Bool, true, false}
 use mathlib.Core.List.{List}
 use lib.ListN.{length}
@@ -11,13 +11,12 @@ use Rattle.query.specs.Syntax.{Path, Filter, self, stay, then, either, star}
 use Rattle.query.specs.Meaning.{Star, reach, holds}
 use Rattle.query.specs.Turn.{turn}
 use Rattle.query.proofs.Inside.{reach-inside}
-use Rattle.query.proofs.Turn.{turn-right}
 use Rattle.sets.specs.Sets.{In, Holds, Image, Narrowed}
 use Rattle.steps.specs.Axis.{Along}
 use Rattle.steps.specs.declared.axis.Axis.{Axis}
 use Rattle.steps.specs.declared.axis.Axis.the-variants.{Child, Parent, Next, Previous}
 use Rattle.evaluator.specs.Evaluator.{facing, pathOf}
-use Rattle.evaluator.proofs.Images.{Stays, image-self, image-stay, image-then, image-either, image-same}
+use Rattle.evaluator.proofs.Images.{Stays, image-self, image-stay, image-then, image-either}
 
 module _ (t : Tree) where
   -- a path stays among the nodes, walked either way
@@ -29,7 +28,7 @@ module _ (t : Tree) where
   Walked back p from r = Image (reach t (facing back p)) from r
 
   -- an axis leads where its path does
-  axis-leads : (axis : Axis) (i j : ℕ) → Along t axis i j ↔ reach t (pathOf axis) i j
+  pub axis-leads : (axis : Axis) (i j : ℕ) → Along t axis i j ↔ reach t (pathOf axis) i j
   unfolding reach
   axis-leads Child i j = Iff·rfl
   axis-leads Parent i j = Iff·rfl
@@ -37,16 +36,6 @@ module _ (t : Tree) where
   axis-leads Previous i j = Iff·rfl
 
   module _ {from : List ℕ} where
-    -- one step along an axis, and against it
-    pub walk-along : {back : Bool} (axis : Axis) {r : List ℕ} → back ≡ false → Image (Along t axis) from r → Walked back (pathOf axis) from r
-    unfolding reach
-    walk-along axis e a = rw e (image-same (axis-leads axis) a)
-
-    pub walk-against : {back : Bool} (axis way : Axis) {r : List ℕ} → back ≡ true → ((i j : ℕ) → Along t way i j ↔ Along t axis j i) → Image (Along t way) from r
-        → Walked back (pathOf axis) from r
-    walk-against axis way e turned a =
-        rw e (image-same (λ i j. Iff·trans (turned i j) (Iff·trans (axis-leads axis j i) (Iff·symm (turn-right t (pathOf axis) i j)))) a)
-
     pub walk-self : (back : Bool) → Walked back self from from
     unfolding reach turn
     walk-self true = image-self

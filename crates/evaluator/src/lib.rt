@@ -10,33 +10,26 @@ use sets::union;
 use steps::Axis;
 use steps::labelled;
 use steps::step;
+use steps::sweep;
 use steps::turned;
 use tables::entry::entry_at;
-ghost use Rattle.roll.specs.Roll.{nodes, Roll};
+ghost use Prim.Native.Nat.{ℕ};
+ghost use mathlib.Core.Logic.{_↔_};
+ghost use Rattle.tree.specs.Tree.{Tree};
+ghost use Rattle.roll.specs.Roll.{nodes};
 ghost use Rattle.query.specs.Kind.{path, filter};
 ghost use Rattle.query.specs.Meaning.{reach, holds};
 ghost use Rattle.query.specs.Syntax as syntax;
 ghost use Rattle.query.specs.Table.{entries, pathAt, filterAt};
 ghost use Rattle.sets.specs.Sets.{Image, Narrowed};
-ghost use Rattle.links.specs.Links.{Siblings};
+ghost use Rattle.steps.specs.Axis.{Along};
 ghost use Rattle.evaluator.specs.Evaluator.{Grounds, Asked, facing, pathOf};
 
-// One step along an axis, or against it.
-fn along(
-    roll: &[u8],
-    next: &[u16; 4096],
-    previous: &[u16; 4096],
-    axis: Axis,
-    back: bool,
-    from: [u64; 64],
-) -> [u64; 64]
-    requires { ⌜ Roll (now roll) × Siblings (nodes (now roll)) (now next) (now previous) ⌝ }
-    ensures { λ r. ⌜ Image (reach (nodes (now (roll .entry))) (facing back (pathOf axis))) from r ⌝ }
+// The axis, or the axis turned round.
+fn way(axis: Axis, back: bool) -> Axis
+    ensures { λ r. ⌜ ((t : Tree) (i j : ℕ) → Along t r i j ↔ reach t (facing back (pathOf axis)) i j) ⌝ }
 {
-    if back {
-        return step(roll, next, previous, turned(axis), from);
-    }
-    step(roll, next, previous, axis, from)
+    if back { turned(axis) } else { axis }
 }
 
 // What the path of entry e reaches from a set of nodes; backwards, from where it reaches them.
@@ -60,10 +53,10 @@ pub fn image(
     let left = entry.left;
     let right = entry.right;
     match kind {
-        2 => along(roll, next, previous, Axis::Child, back, from),
-        3 => along(roll, next, previous, Axis::Parent, back, from),
-        4 => along(roll, next, previous, Axis::Next, back, from),
-        5 => along(roll, next, previous, Axis::Previous, back, from),
+        2 => step(roll, next, previous, way(Axis::Child, back), from),
+        3 => step(roll, next, previous, way(Axis::Parent, back), from),
+        4 => step(roll, next, previous, way(Axis::Next, back), from),
+        5 => step(roll, next, previous, way(Axis::Previous, back), from),
         6 => narrow(roll, next, previous, table, left, from),
         7 => {
             if back {
@@ -84,8 +77,31 @@ pub fn image(
     }
 }
 
-// What the path of entry e reaches in zero or more goes: it goes on from what is new in the last round, until nothing is.
+// What the path of entry e reaches in zero or more goes: along one axis in one sweep, and by rounds where the path is made of others.
 fn star(
+    roll: &[u8],
+    next: &[u16; 4096],
+    previous: &[u16; 4096],
+    table: &[u8],
+    e: usize,
+    back: bool,
+    from: [u64; 64],
+) -> [u64; 64]
+    requires { ⌜ Grounds (now roll) (now table) (now next) (now previous) × Asked (now roll) (now table) path e from ⌝ }
+    ensures { λ r. ⌜ Image (reach (nodes (now (roll .entry))) (syntax.star (facing back (pathAt (entries (now (table .entry))) e)))) from r ⌝ }
+{
+    let kind = entry_at(table, e).kind;
+    match kind {
+        2 => sweep(roll, next, previous, way(Axis::Child, back), from),
+        3 => sweep(roll, next, previous, way(Axis::Parent, back), from),
+        4 => sweep(roll, next, previous, way(Axis::Next, back), from),
+        5 => sweep(roll, next, previous, way(Axis::Previous, back), from),
+        _ => by_rounds(roll, next, previous, table, e, back, from),
+    }
+}
+
+// What the path of entry e reaches in zero or more goes, by rounds: it goes on from what is new in the last one, until nothing is.
+fn by_rounds(
     roll: &[u8],
     next: &[u16; 4096],
     previous: &[u16; 4096],

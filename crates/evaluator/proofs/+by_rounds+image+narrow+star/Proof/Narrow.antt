@@ -22,8 +22,8 @@ use Rattle.evaluator.proofs.Images.{Stays, narrowed-inside}
 use Rattle.evaluator.proofs.Filters.{narrow-empty, narrow-always, narrow-never, narrow-leads, narrow-not, narrow-and, narrow-or}
 use Rattle.evaluator.proofs.Operands.{operand-below, is-labelled, is-leads, is-always, is-never, is-not, is-and, is-or}
 use Rattle.evaluator.proofs.Walks.{walk-stays}
-use Rattle.evaluator.proofs.+image+narrow+star.Proof.Measures.{narrow-at, image-below, narrow-below}
-use Rattle.evaluator.proofs.+image+narrow+star.Lts-narrow as lts
+use Rattle.evaluator.proofs.+by_rounds+image+narrow+star.Proof.Measures.{narrow-at, image-below, narrow-below}
+use Rattle.evaluator.proofs.+by_rounds+image+narrow+star.Lts-narrow as lts
 use Rattle.evaluator.proofs.image.Reads as image
 use Rattle.evaluator.proofs.narrow.Reads as narrow
 use Rattle.sets.proofs.is_empty.Reads as is-empty
@@ -64,7 +64,7 @@ module _ (t : ℕ) where
     asked : Asked (now (start .args .roll)) (now (start .args .table)) filter (start .args .e) (start .args .from)
     asked = start .pre .1 .1
 
-    measured : 2 * start .args .e ≡ t
+    measured : 3 * start .args .e ≡ t
     measured = start .pre .0
 
     stays : (p : Path) → Stays (length tree) (reach tree p)

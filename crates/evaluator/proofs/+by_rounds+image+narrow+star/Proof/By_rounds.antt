@@ -1,4 +1,4 @@
--- `star` meets its contract, as a member of the cycle of calls: between two rounds `Rounds` holds, and each round adds a node to those gone on from.
+-- `by_rounds` meets its contract, as a member of the cycle of calls: between two rounds `Rounds` holds, and each round adds a node to those gone on from.
 -- Assumes nothing.
 use Prim.Native.Nat.{ℕ, _-_}
 use native.Mathlib.Omega.{arith}
@@ -18,10 +18,10 @@ use Rattle.tree.proofs.Tests.{test-failed, test-passed}
 use Rattle.evaluator.specs.Evaluator.{Grounds, Asked, facing}
 use Rattle.evaluator.proofs.Rounds.{Rounds, first-round, next-round, round-adds, last-round}
 use Rattle.evaluator.proofs.Walks.{walk-stays}
-use Rattle.evaluator.proofs.+image+narrow+star.Proof.Measures.{star-at, image-below}
-use Rattle.evaluator.proofs.+image+narrow+star.Lts-star as lts
+use Rattle.evaluator.proofs.+by_rounds+image+narrow+star.Proof.Measures.{by-rounds-at, image-below}
+use Rattle.evaluator.proofs.+by_rounds+image+narrow+star.Lts-by_rounds as lts
 use Rattle.evaluator.proofs.image.Reads as image
-use Rattle.evaluator.proofs.star.Reads as star
+use Rattle.evaluator.proofs.by_rounds.Reads as by-rounds
 use Rattle.sets.proofs.is_empty.Reads as is-empty
 use Rattle.sets.proofs.union.Reads as union
 use Rattle.sets.proofs.difference.Reads as difference
@@ -40,8 +40,8 @@ abbrev pub μ-loop : lts.MeasureT-loop
 
 module _ (t : ℕ) where
   -- at the loop's head: what the function was given
-  module _ (c : lts.At-loop (claims t) (star-at t) star.Post Inv-loop μ-loop) where
-    abbrev start : lts.Start (claims t) (star-at t) star.Post Inv-loop μ-loop
+  module _ (c : lts.At-loop (claims t) (by-rounds-at t) by-rounds.Post Inv-loop μ-loop) where
+    abbrev start : lts.Start (claims t) (by-rounds-at t) by-rounds.Post Inv-loop μ-loop
     start = c .before .before .before .before
 
     given : Grounds (now (start .args .roll)) (now (start .args .table)) (now (start .args .next)) (now (start .args .previous))
@@ -50,28 +50,28 @@ module _ (t : ℕ) where
     asked : Asked (now (start .args .roll)) (now (start .args .table)) path (start .args .e) (start .args .from)
     asked = start .pre .1 .1
 
-  pub empty-requires : lts.Need-empty-requires (claims t) (star-at t) star.Post Inv-loop μ-loop
+  pub empty-requires : lts.Need-empty-requires (claims t) (by-rounds-at t) by-rounds.Post Inv-loop μ-loop
   empty-requires c κs = search needs
 
-  pub loop-holds : lts.Need-loop-holds (claims t) (star-at t) star.Post Inv-loop μ-loop
+  pub loop-holds : lts.Need-loop-holds (claims t) (by-rounds-at t) by-rounds.Post Inv-loop μ-loop
   loop-holds c = first-round (c .before .before .before .pre .1 .1 .nodes-only) (c .empty .ensures)
 
-  pub is-empty-requires : lts.Need-is-empty-requires (claims t) (star-at t) star.Post Inv-loop μ-loop
+  pub is-empty-requires : lts.Need-is-empty-requires (claims t) (by-rounds-at t) by-rounds.Post Inv-loop μ-loop
   is-empty-requires c κs = search needs
 
-  pub union-requires : lts.Need-union-requires (claims t) (star-at t) star.Post Inv-loop μ-loop
+  pub union-requires : lts.Need-union-requires (claims t) (by-rounds-at t) by-rounds.Post Inv-loop μ-loop
   union-requires c κs = search needs
 
-  pub image-requires : lts.Need-image-requires (claims t) (star-at t) star.Post Inv-loop μ-loop
+  pub image-requires : lts.Need-image-requires (claims t) (by-rounds-at t) by-rounds.Post Inv-loop μ-loop
   image-requires c κs =
       let head = c .before .before .before in
       let asks = asked head in
       (omega (arith, start head .pre .0), (given head, record { within = asks .within; sort = asks .sort; nodes-only = λ k x. head .loop .inv .nodes-only k (inr x) }))
 
-  pub difference-requires : lts.Need-difference-requires (claims t) (star-at t) star.Post Inv-loop μ-loop
+  pub difference-requires : lts.Need-difference-requires (claims t) (by-rounds-at t) by-rounds.Post Inv-loop μ-loop
   difference-requires c κs = search needs
 
-  pub loop-less : lts.Need-loop-less (claims t) (star-at t) star.Post Inv-loop μ-loop
+  pub loop-less : lts.Need-loop-less (claims t) (by-rounds-at t) by-rounds.Post Inv-loop μ-loop
   loop-less c =
       let united = c .before .before in
       let tested = united .before .before in
@@ -80,12 +80,12 @@ module _ (t : ℕ) where
       let more = round-adds (tested .before .loop .inv) most some (united .union .ensures) in
       omega (arith, size-most (united .union .result))
 
-  pub loop-again : lts.Need-loop-again (claims t) (star-at t) star.Post Inv-loop μ-loop
+  pub loop-again : lts.Need-loop-again (claims t) (by-rounds-at t) by-rounds.Post Inv-loop μ-loop
   loop-again c =
       let united = c .before .before in
       let head = united .before .before .before in
       next-round (head .loop .inv) (walk-stays _ (roll-in-order (given head .roll-right)) _) (united .union .ensures) (c .before .image .ensures) (c .difference .ensures)
 
-  pub returns : lts.Need-returns (claims t) (star-at t) star.Post Inv-loop μ-loop
+  pub returns : lts.Need-returns (claims t) (by-rounds-at t) by-rounds.Post Inv-loop μ-loop
   unfolding reach
   returns c = last-round (c .before .before .loop .inv) (test-passed (c .before .is-empty .result) (c .before .is-empty .ensures) (c .if1 .left))

@@ -18,11 +18,11 @@ use Rattle.query.specs.Table.{entries}
 use Rattle.query.proofs.Standing.{path-kind}
 use Rattle.sets.specs.Sets.{Image, Inside}
 use Rattle.evaluator.specs.Evaluator.{Grounds, Asked, facing}
-use Rattle.evaluator.proofs.Images.{Stays, image-empty, image-inside}
+use Rattle.evaluator.proofs.Images.{Stays, image-empty, image-inside, image-same}
 use Rattle.evaluator.proofs.Operands.{down, operand, operand-below, is-self, is-child, is-parent, is-next, is-previous, is-stay, is-then, is-either, is-star}
 use Rattle.evaluator.proofs.Walks.{walk-stays, walk-self, walk-stay, walk-then, walk-then-back, walk-either, walk-star}
-use Rattle.evaluator.proofs.+image+narrow+star.Proof.Measures.{image-at, image-below, narrow-below, star-below}
-use Rattle.evaluator.proofs.+image+narrow+star.Lts-image as lts
+use Rattle.evaluator.proofs.+by_rounds+image+narrow+star.Proof.Measures.{image-at, image-below, narrow-below, star-below}
+use Rattle.evaluator.proofs.+by_rounds+image+narrow+star.Lts-image as lts
 use Rattle.evaluator.proofs.image.Reads as image
 use Rattle.evaluator.proofs.narrow.Reads as narrow
 use Rattle.evaluator.proofs.star.Reads as star
@@ -30,11 +30,12 @@ use Rattle.sets.proofs.is_empty.Reads as is-empty
 use Rattle.sets.proofs.union.Reads as union
 use Rattle.sets.proofs.empty.Reads as empty
 use Rattle.tables.proofs.entry.entry_at.Reads as entry-at
-use Rattle.evaluator.proofs.along.Reads as along
+use Rattle.evaluator.proofs.way.Reads as way
+use Rattle.steps.proofs.step.Reads as step
 
 -- what its callees ask and say
 abbrev pub claims : ℕ → lts.Claims
-claims t = (is-empty.Asked, is-empty.Learnt, entry-at.Asked, entry-at.Learnt, along.Asked, along.Learnt, narrow-below t, narrow.Post, image-below t, image.Post, union.Asked, union.Learnt, star-below t, star.Post)
+claims t = (is-empty.Asked, is-empty.Learnt, entry-at.Asked, entry-at.Learnt, way.Asked, way.Learnt, step.Asked, step.Learnt, narrow-below t, narrow.Post, image-below t, image.Post, union.Asked, union.Learnt, star-below t, star.Post)
 
 module _ (t : ℕ) where
   pub is-empty-requires : lts.Need-is-empty-requires (claims t) (image-at t) image.Post
@@ -60,36 +61,60 @@ module _ (t : ℕ) where
     asked : Asked (now (start .args .roll)) (now (start .args .table)) path (start .args .e) (start .args .from)
     asked = start .pre .1 .1
 
-    measured : 2 * start .args .e ≡ t
+    measured : 3 * start .args .e ≡ t
     measured = start .pre .0
 
     stays : (p : Path) → Stays (length tree) (reach tree p)
     stays p = walk-stays tree (roll-in-order (given .roll-right)) p
 
   -- one step along each axis
-  pub along-requires : lts.Need-along-requires (claims t) (image-at t) image.Post
-  along-requires c κs = let g = given (c .before) in (g .roll-right, g .links)
+  pub way-requires : lts.Need-way-requires (claims t) (image-at t) image.Post
+  way-requires c κs = search needs
 
-  pub along-requires-2 : lts.Need-along-requires-2 (claims t) (image-at t) image.Post
-  along-requires-2 c κs = let g = given (c .before) in (g .roll-right, g .links)
-
-  pub along-requires-3 : lts.Need-along-requires-3 (claims t) (image-at t) image.Post
-  along-requires-3 c κs = let g = given (c .before) in (g .roll-right, g .links)
-
-  pub along-requires-4 : lts.Need-along-requires-4 (claims t) (image-at t) image.Post
-  along-requires-4 c κs = let g = given (c .before) in (g .roll-right, g .links)
+  pub step-requires : lts.Need-step-requires (claims t) (image-at t) image.Post
+  step-requires c κs = let g = given (c .before .before) in (g .roll-right, g .links)
 
   pub returns-2 : lts.Need-returns-2 (claims t) (image-at t) image.Post
-  returns-2 c = let k = c .before .before in rw (is-child (given k) (asked k) (k .entry-at .ensures) (c .before .match .keys1)) (c .along .ensures)
+  returns-2 c =
+      let turned = c .before in
+      let k = turned .before .before in
+      rw (is-child (given k) (asked k) (k .entry-at .ensures) (turned .before .match .keys1)) (image-same (turned .way .ensures (tree k)) (c .step .ensures))
+
+  pub way-requires-2 : lts.Need-way-requires-2 (claims t) (image-at t) image.Post
+  way-requires-2 c κs = search needs
+
+  pub step-requires-2 : lts.Need-step-requires-2 (claims t) (image-at t) image.Post
+  step-requires-2 c κs = let g = given (c .before .before) in (g .roll-right, g .links)
 
   pub returns-3 : lts.Need-returns-3 (claims t) (image-at t) image.Post
-  returns-3 c = let k = c .before .before in rw (is-parent (given k) (asked k) (k .entry-at .ensures) (c .before .match .keys2)) (c .along2 .ensures)
+  returns-3 c =
+      let turned = c .before in
+      let k = turned .before .before in
+      rw (is-parent (given k) (asked k) (k .entry-at .ensures) (turned .before .match .keys2)) (image-same (turned .way2 .ensures (tree k)) (c .step2 .ensures))
+
+  pub way-requires-3 : lts.Need-way-requires-3 (claims t) (image-at t) image.Post
+  way-requires-3 c κs = search needs
+
+  pub step-requires-3 : lts.Need-step-requires-3 (claims t) (image-at t) image.Post
+  step-requires-3 c κs = let g = given (c .before .before) in (g .roll-right, g .links)
 
   pub returns-4 : lts.Need-returns-4 (claims t) (image-at t) image.Post
-  returns-4 c = let k = c .before .before in rw (is-next (given k) (asked k) (k .entry-at .ensures) (c .before .match .keys3)) (c .along3 .ensures)
+  returns-4 c =
+      let turned = c .before in
+      let k = turned .before .before in
+      rw (is-next (given k) (asked k) (k .entry-at .ensures) (turned .before .match .keys3)) (image-same (turned .way3 .ensures (tree k)) (c .step3 .ensures))
+
+  pub way-requires-4 : lts.Need-way-requires-4 (claims t) (image-at t) image.Post
+  way-requires-4 c κs = search needs
+
+  pub step-requires-4 : lts.Need-step-requires-4 (claims t) (image-at t) image.Post
+  step-requires-4 c κs = let g = given (c .before .before) in (g .roll-right, g .links)
 
   pub returns-5 : lts.Need-returns-5 (claims t) (image-at t) image.Post
-  returns-5 c = let k = c .before .before in rw (is-previous (given k) (asked k) (k .entry-at .ensures) (c .before .match .keys4)) (c .along4 .ensures)
+  returns-5 c =
+      let turned = c .before in
+      let k = turned .before .before in
+      rw (is-previous (given k) (asked k) (k .entry-at .ensures) (turned .before .match .keys4)) (image-same (turned .way4 .ensures (tree k)) (c .step4 .ensures))
 
   -- stay if the filter holds
   pub narrow-requires : lts.Need-narrow-requires (claims t) (image-at t) image.Post
