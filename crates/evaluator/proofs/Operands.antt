@@ -24,20 +24,25 @@ entryOf read = record { kind = read .kind; label = read .label; left = read .lef
 pub down : (k : ℕ) {n : ℕ} → n ≤ k → (n ≡ k → ⊥) → n ≤ k - 1
 down k l h = omega arith
 
-module _ {roll tab : Bytes} {next previous : List ℕ} {s : Sort} {e : ℕ} {from : List ℕ} {read : Entry}
-    (g : Grounds roll tab next previous) (a : Asked roll tab s e from) (f : Fields (entryAt (entries tab) e) read) where
+-- What a function was given, and the entry that it has read.
+pub record Known (roll tab : Bytes) (next previous : List ℕ) (s : Sort) (e : ℕ) (from : List ℕ) (read : Entry) : Type 0 where
+  pub grounds : Grounds roll tab next previous
+  pub asked : Asked roll tab s e from
+  pub fields : Fields (entryAt (entries tab) e) read
+
+module _ {roll tab : Bytes} {next previous : List ℕ} {s : Sort} {e : ℕ} {from : List ℕ} {read : Entry} (k : Known roll tab next previous s e from read) where
   -- it is the table's
   same-entry : entryAt (entries tab) e ≡ entryOf read
-  same-entry = rw (f .kind, f .label, f .left, f .right)
+  same-entry = let f = k .fields in rw (f .kind, f .label, f .left, f .right)
 
   right : EntryRight (entries tab) e
-  right = g .each e (a .within)
+  right = k .grounds .each e (k .asked .within)
 
   -- An operand is asked of a set of nodes. It is an earlier entry, so three times its number, and two more for a star above it, is below three times e.
   pub operand : {o : Sort} {x t : ℕ} {set : List ℕ} → OperandField (entries tab) e (of o) x → Inside (length (nodes roll)) set → 3 * e ≡ t
       → (3 * x + 2 < t) × (Grounds roll tab next previous × Asked roll tab o x set)
   unfolding OperandField
-  operand (l, h) inside m = (omega arith, (g, record { within = omega (arith, a .within); sort = h; nodes-only = inside }))
+  operand (l, h) inside m = (omega arith, (k .grounds, record { within = omega (arith, k .asked .within); sort = h; nodes-only = inside }))
 
   pub operand-below : {o : Sort} {x t : ℕ} {set : List ℕ} → OperandField (entries tab) e (of o) x → Inside (length (nodes roll)) set → 3 * e ≡ t
       → (3 * x < t) × (Grounds roll tab next previous × Asked roll tab o x set)
@@ -46,60 +51,60 @@ module _ {roll tab : Bytes} {next previous : List ℕ} {s : Sort} {e : ℕ} {fro
   -- what the entry stands for
   pub is-self : read .kind ≡ 1 → pathAt (entries tab) e ≡ syntax.self
   unfolding kinds find build thePath
-  is-self is = standing.path-stands (entries tab) e (a .within) (entryOf read) same-entry 1 _ refl is
+  is-self is = standing.path-stands (entries tab) e (k .asked .within) (entryOf read) same-entry 1 _ refl is
 
   pub is-child : read .kind ≡ 2 → pathAt (entries tab) e ≡ syntax.child
   unfolding kinds find build thePath
-  is-child is = standing.path-stands (entries tab) e (a .within) (entryOf read) same-entry 2 _ refl is
+  is-child is = standing.path-stands (entries tab) e (k .asked .within) (entryOf read) same-entry 2 _ refl is
 
   pub is-parent : read .kind ≡ 3 → pathAt (entries tab) e ≡ syntax.parent
   unfolding kinds find build thePath
-  is-parent is = standing.path-stands (entries tab) e (a .within) (entryOf read) same-entry 3 _ refl is
+  is-parent is = standing.path-stands (entries tab) e (k .asked .within) (entryOf read) same-entry 3 _ refl is
 
   pub is-next : read .kind ≡ 4 → pathAt (entries tab) e ≡ syntax.next
   unfolding kinds find build thePath
-  is-next is = standing.path-stands (entries tab) e (a .within) (entryOf read) same-entry 4 _ refl is
+  is-next is = standing.path-stands (entries tab) e (k .asked .within) (entryOf read) same-entry 4 _ refl is
 
   pub is-previous : read .kind ≡ 5 → pathAt (entries tab) e ≡ syntax.previous
   unfolding kinds find build thePath
-  is-previous is = standing.path-stands (entries tab) e (a .within) (entryOf read) same-entry 5 _ refl is
+  is-previous is = standing.path-stands (entries tab) e (k .asked .within) (entryOf read) same-entry 5 _ refl is
 
   -- both operands are earlier entries of the sort
   abbrev pub Both : Sort → Type 0
   Both o = OperandField (entries tab) e (of o) (read .left) × OperandField (entries tab) e (of o) (read .right)
 
   pub is-stay : read .kind ≡ 6 → OperandField (entries tab) e (of filter) (read .left) × (pathAt (entries tab) e ≡ syntax.stay (filterAt (entries tab) (read .left)))
-  is-stay is = standing.stay-stands (entries tab) e (a .within) (entryOf read) same-entry right is
+  is-stay is = standing.stay-stands (entries tab) e (k .asked .within) (entryOf read) same-entry right is
 
   pub is-then : read .kind ≡ 7 → Both path × (pathAt (entries tab) e ≡ syntax.then (pathAt (entries tab) (read .left)) (pathAt (entries tab) (read .right)))
-  is-then is = standing.then-stands (entries tab) e (a .within) (entryOf read) same-entry right is
+  is-then is = standing.then-stands (entries tab) e (k .asked .within) (entryOf read) same-entry right is
 
   pub is-either : read .kind ≡ 8 → Both path × (pathAt (entries tab) e ≡ syntax.either (pathAt (entries tab) (read .left)) (pathAt (entries tab) (read .right)))
-  is-either is = standing.either-stands (entries tab) e (a .within) (entryOf read) same-entry right is
+  is-either is = standing.either-stands (entries tab) e (k .asked .within) (entryOf read) same-entry right is
 
   pub is-star : read .kind ≡ 9 → OperandField (entries tab) e (of path) (read .left) × (pathAt (entries tab) e ≡ syntax.star (pathAt (entries tab) (read .left)))
-  is-star is = standing.star-stands (entries tab) e (a .within) (entryOf read) same-entry right is
+  is-star is = standing.star-stands (entries tab) e (k .asked .within) (entryOf read) same-entry right is
 
   pub is-labelled : read .kind ≡ 16 → filterAt (entries tab) e ≡ syntax.labelled (read .label)
   unfolding kinds find build theFilter
-  is-labelled is = standing.filter-stands (entries tab) e (a .within) (entryOf read) same-entry 16 _ refl is
+  is-labelled is = standing.filter-stands (entries tab) e (k .asked .within) (entryOf read) same-entry 16 _ refl is
 
   pub is-leads : read .kind ≡ 17 → OperandField (entries tab) e (of path) (read .left) × (filterAt (entries tab) e ≡ syntax.leads (pathAt (entries tab) (read .left)))
-  is-leads is = standing.leads-stands (entries tab) e (a .within) (entryOf read) same-entry right is
+  is-leads is = standing.leads-stands (entries tab) e (k .asked .within) (entryOf read) same-entry right is
 
   pub is-always : read .kind ≡ 18 → filterAt (entries tab) e ≡ syntax.always
   unfolding kinds find build theFilter
-  is-always is = standing.filter-stands (entries tab) e (a .within) (entryOf read) same-entry 18 _ refl is
+  is-always is = standing.filter-stands (entries tab) e (k .asked .within) (entryOf read) same-entry 18 _ refl is
 
   pub is-never : read .kind ≡ 19 → filterAt (entries tab) e ≡ syntax.never
   unfolding kinds find build theFilter
-  is-never is = standing.filter-stands (entries tab) e (a .within) (entryOf read) same-entry 19 _ refl is
+  is-never is = standing.filter-stands (entries tab) e (k .asked .within) (entryOf read) same-entry 19 _ refl is
 
   pub is-not : read .kind ≡ 20 → OperandField (entries tab) e (of filter) (read .left) × (filterAt (entries tab) e ≡ syntax.not (filterAt (entries tab) (read .left)))
-  is-not is = standing.not-stands (entries tab) e (a .within) (entryOf read) same-entry right is
+  is-not is = standing.not-stands (entries tab) e (k .asked .within) (entryOf read) same-entry right is
 
   pub is-and : read .kind ≡ 21 → Both filter × (filterAt (entries tab) e ≡ syntax.and (filterAt (entries tab) (read .left)) (filterAt (entries tab) (read .right)))
-  is-and is = standing.and-stands (entries tab) e (a .within) (entryOf read) same-entry right is
+  is-and is = standing.and-stands (entries tab) e (k .asked .within) (entryOf read) same-entry right is
 
   pub is-or : read .kind ≡ 22 → Both filter × (filterAt (entries tab) e ≡ syntax.or (filterAt (entries tab) (read .left)) (filterAt (entries tab) (read .right)))
-  is-or is = standing.or-stands (entries tab) e (a .within) (entryOf read) same-entry right is
+  is-or is = standing.or-stands (entries tab) e (k .asked .within) (entryOf read) same-entry right is

@@ -1,9 +1,9 @@
 -- `image` meets its contract, as a member of the cycle of calls: an arm for each kind of path, whose operands are asked in their turn.
 -- Assumes nothing.
-use Prim.Native.Nat.{ℕ, _*_}
+use Prim.Native.Nat.{ℕ, _*_, _<_}
 use native.Mathlib.Nat.{le-antisymm}
 use mathlib.Core.Path.{_≡_, sym, subst}
-use mathlib.Core.Bool.{Bool}
+use mathlib.Core.List.{List}
 use borrow.Author.Needs.{needs}
 use denote.Ref.{now}
 use lib.ListN.{length}
@@ -17,9 +17,9 @@ use Rattle.query.specs.Meaning.{reach}
 use Rattle.query.specs.Table.{entries}
 use Rattle.query.proofs.Standing.{path-kind}
 use Rattle.sets.specs.Sets.{Image, Inside}
-use Rattle.evaluator.specs.Evaluator.{Grounds, Asked, facing}
+use Rattle.evaluator.specs.Evaluator.{Grounds, Asked}
 use Rattle.evaluator.proofs.Images.{Stays, image-empty, image-inside, image-same}
-use Rattle.evaluator.proofs.Operands.{down, operand, operand-below, is-self, is-child, is-parent, is-next, is-previous, is-stay, is-then, is-either, is-star}
+use Rattle.evaluator.proofs.Operands.{Known, down, operand, operand-below, is-self, is-child, is-parent, is-next, is-previous, is-stay, is-then, is-either, is-star}
 use Rattle.evaluator.proofs.Walks.{walk-stays, walk-self, walk-stay, walk-then, walk-then-back, walk-either, walk-star}
 use Rattle.evaluator.proofs.+by_rounds+image+narrow+star.Proof.Measures.{image-at, image-below, narrow-below, star-below}
 use Rattle.evaluator.proofs.+by_rounds+image+narrow+star.Lts-image as lts
@@ -55,126 +55,139 @@ module _ (t : ℕ) where
     abbrev tree : Tree
     tree = nodes (now (start .args .roll))
 
-    given : Grounds (now (start .args .roll)) (now (start .args .table)) (now (start .args .next)) (now (start .args .previous))
-    given = start .pre .1 .0
-
-    asked : Asked (now (start .args .roll)) (now (start .args .table)) path (start .args .e) (start .args .from)
-    asked = start .pre .1 .1
+    known : Known (now (start .args .roll)) (now (start .args .table)) (now (start .args .next)) (now (start .args .previous)) path (start .args .e) (start .args .from) (c .entry-at .result)
+    known = record { grounds = start .pre .1 .0; asked = start .pre .1 .1; fields = c .entry-at .ensures }
 
     measured : 3 * start .args .e ≡ t
     measured = start .pre .0
 
+    -- entry x can be asked of a set in a call of its own
+    abbrev Callable : ℕ → List ℕ → Type 0
+    Callable x set =
+        (3 * x < t) × (Grounds (now (start .args .roll)) (now (start .args .table)) (now (start .args .next)) (now (start .args .previous))
+        × Asked (now (start .args .roll)) (now (start .args .table)) path x set)
+
     stays : (p : Path) → Stays (length tree) (reach tree p)
-    stays p = walk-stays tree (roll-in-order (given .roll-right)) p
+    stays p = walk-stays tree (roll-in-order (known .grounds .roll-right)) p
 
   -- one step along each axis
   pub way-requires : lts.Need-way-requires (claims t) (image-at t) image.Post
   way-requires c κs = search needs
 
   pub step-requires : lts.Need-step-requires (claims t) (image-at t) image.Post
-  step-requires c κs = let g = given (c .before .before) in (g .roll-right, g .links)
+  step-requires c κs = let g = known (c .before .before) .grounds in (g .roll-right, g .links)
 
   pub returns-2 : lts.Need-returns-2 (claims t) (image-at t) image.Post
   returns-2 c =
       let turned = c .before in
       let k = turned .before .before in
-      rw (is-child (given k) (asked k) (k .entry-at .ensures) (turned .before .match .keys1)) (image-same (turned .way .ensures (tree k)) (c .step .ensures))
+      rw (is-child (known k) (turned .before .match .keys1)) (image-same (turned .way .ensures (tree k)) (c .step .ensures))
 
   pub way-requires-2 : lts.Need-way-requires-2 (claims t) (image-at t) image.Post
   way-requires-2 c κs = search needs
 
   pub step-requires-2 : lts.Need-step-requires-2 (claims t) (image-at t) image.Post
-  step-requires-2 c κs = let g = given (c .before .before) in (g .roll-right, g .links)
+  step-requires-2 c κs = let g = known (c .before .before) .grounds in (g .roll-right, g .links)
 
   pub returns-3 : lts.Need-returns-3 (claims t) (image-at t) image.Post
   returns-3 c =
       let turned = c .before in
       let k = turned .before .before in
-      rw (is-parent (given k) (asked k) (k .entry-at .ensures) (turned .before .match .keys2)) (image-same (turned .way2 .ensures (tree k)) (c .step2 .ensures))
+      rw (is-parent (known k) (turned .before .match .keys2)) (image-same (turned .way2 .ensures (tree k)) (c .step2 .ensures))
 
   pub way-requires-3 : lts.Need-way-requires-3 (claims t) (image-at t) image.Post
   way-requires-3 c κs = search needs
 
   pub step-requires-3 : lts.Need-step-requires-3 (claims t) (image-at t) image.Post
-  step-requires-3 c κs = let g = given (c .before .before) in (g .roll-right, g .links)
+  step-requires-3 c κs = let g = known (c .before .before) .grounds in (g .roll-right, g .links)
 
   pub returns-4 : lts.Need-returns-4 (claims t) (image-at t) image.Post
   returns-4 c =
       let turned = c .before in
       let k = turned .before .before in
-      rw (is-next (given k) (asked k) (k .entry-at .ensures) (turned .before .match .keys3)) (image-same (turned .way3 .ensures (tree k)) (c .step3 .ensures))
+      rw (is-next (known k) (turned .before .match .keys3)) (image-same (turned .way3 .ensures (tree k)) (c .step3 .ensures))
 
   pub way-requires-4 : lts.Need-way-requires-4 (claims t) (image-at t) image.Post
   way-requires-4 c κs = search needs
 
   pub step-requires-4 : lts.Need-step-requires-4 (claims t) (image-at t) image.Post
-  step-requires-4 c κs = let g = given (c .before .before) in (g .roll-right, g .links)
+  step-requires-4 c κs = let g = known (c .before .before) .grounds in (g .roll-right, g .links)
 
   pub returns-5 : lts.Need-returns-5 (claims t) (image-at t) image.Post
   returns-5 c =
       let turned = c .before in
       let k = turned .before .before in
-      rw (is-previous (given k) (asked k) (k .entry-at .ensures) (turned .before .match .keys4)) (image-same (turned .way4 .ensures (tree k)) (c .step4 .ensures))
+      rw (is-previous (known k) (turned .before .match .keys4)) (image-same (turned .way4 .ensures (tree k)) (c .step4 .ensures))
 
   -- stay if the filter holds
   pub narrow-requires : lts.Need-narrow-requires (claims t) (image-at t) image.Post
   narrow-requires c κs =
       let k = c .before in
-      operand-below (given k) (asked k) (k .entry-at .ensures) (is-stay (given k) (asked k) (k .entry-at .ensures) (c .match .keys5) .0) (asked k .nodes-only) (measured k)
+      operand-below (known k) (is-stay (known k) (c .match .keys5) .0) (known k .asked .nodes-only) (measured k)
 
   pub returns-6 : lts.Need-returns-6 (claims t) (image-at t) image.Post
   returns-6 c =
       let k = c .before .before in
-      rw (is-stay (given k) (asked k) (k .entry-at .ensures) (c .before .match .keys5) .1) (walk-stay (tree k) (start k .args .back) _ (c .narrow .ensures))
+      rw (is-stay (known k) (c .before .match .keys5) .1) (walk-stay (tree k) (start k .args .back) _ (c .narrow .ensures))
 
-  -- left, then right: backwards the right path comes first
+  -- left, then right: both operands can be asked of a set of nodes
+  operands : (c : lts.After-entry-at (claims t) (image-at t) image.Post) {set : List ℕ} → c .entry-at .result .kind ≡ 7
+      → Inside (length (tree c)) set
+      → Callable c (c .entry-at .result .left) set × Callable c (c .entry-at .result .right) set
+  operands c is inside =
+      let both = is-then (known c) is .0 in
+      (operand-below (known c) (both .0) inside (measured c), operand-below (known c) (both .1) inside (measured c))
+
+  -- backwards the right path comes first
   pub image-requires : lts.Need-image-requires (claims t) (image-at t) image.Post
   image-requires c κs =
       let k = c .before .before in
-      operand-below (given k) (asked k) (k .entry-at .ensures) (is-then (given k) (asked k) (k .entry-at .ensures) (c .before .match .keys6) .0 .1) (asked k .nodes-only) (measured k)
+      let (left, right) = operands k (c .before .match .keys6) (known k .asked .nodes-only) in
+      search (left, right)
 
   pub image-requires-2 : lts.Need-image-requires-2 (claims t) (image-at t) image.Post
   image-requires-2 c κs =
       let k = c .before .before .before in
-      let inside = image-inside (stays k _) (asked k .nodes-only) (c .image .ensures) in
-      operand-below (given k) (asked k) (k .entry-at .ensures) (is-then (given k) (asked k) (k .entry-at .ensures) (c .before .before .match .keys6) .0 .0) inside (measured k)
+      let (left, right) = operands k (c .before .before .match .keys6) (image-inside (stays k _) (known k .asked .nodes-only) (c .image .ensures)) in
+      search (left, right)
 
   pub returns-7 : lts.Need-returns-7 (claims t) (image-at t) image.Post
   returns-7 c =
       let first = c .before in
       let k = first .before .before .before in
-      rw (is-then (given k) (asked k) (k .entry-at .ensures) (first .before .before .match .keys6) .1)
+      rw (is-then (known k) (first .before .before .match .keys6) .1)
       (walk-then-back (tree k) _ _ (start k .args .back) (first .before .if2 .taken) (first .image .ensures) (c .image2 .ensures))
 
   -- and forwards the left one
   pub image-requires-3 : lts.Need-image-requires-3 (claims t) (image-at t) image.Post
   image-requires-3 c κs =
       let k = c .before .before in
-      operand-below (given k) (asked k) (k .entry-at .ensures) (is-then (given k) (asked k) (k .entry-at .ensures) (c .before .match .keys6) .0 .0) (asked k .nodes-only) (measured k)
+      let (left, right) = operands k (c .before .match .keys6) (known k .asked .nodes-only) in
+      search (left, right)
 
   pub image-requires-4 : lts.Need-image-requires-4 (claims t) (image-at t) image.Post
   image-requires-4 c κs =
       let k = c .before .before .before in
-      let inside = image-inside (stays k _) (asked k .nodes-only) (c .image3 .ensures) in
-      operand-below (given k) (asked k) (k .entry-at .ensures) (is-then (given k) (asked k) (k .entry-at .ensures) (c .before .before .match .keys6) .0 .1) inside (measured k)
+      let (left, right) = operands k (c .before .before .match .keys6) (image-inside (stays k _) (known k .asked .nodes-only) (c .image3 .ensures)) in
+      search (left, right)
 
   pub returns-8 : lts.Need-returns-8 (claims t) (image-at t) image.Post
   returns-8 c =
       let first = c .before in
       let k = first .before .before .before in
-      rw (is-then (given k) (asked k) (k .entry-at .ensures) (first .before .before .match .keys6) .1)
+      rw (is-then (known k) (first .before .before .match .keys6) .1)
       (walk-then (tree k) _ _ (start k .args .back) (first .before .if2 .left) (first .image3 .ensures) (c .image4 .ensures))
 
   -- left or right
   pub image-requires-5 : lts.Need-image-requires-5 (claims t) (image-at t) image.Post
   image-requires-5 c κs =
       let k = c .before in
-      operand-below (given k) (asked k) (k .entry-at .ensures) (is-either (given k) (asked k) (k .entry-at .ensures) (c .match .keys7) .0 .0) (asked k .nodes-only) (measured k)
+      operand-below (known k) (is-either (known k) (c .match .keys7) .0 .0) (known k .asked .nodes-only) (measured k)
 
   pub image-requires-6 : lts.Need-image-requires-6 (claims t) (image-at t) image.Post
   image-requires-6 c κs =
       let k = c .before .before in
-      operand-below (given k) (asked k) (k .entry-at .ensures) (is-either (given k) (asked k) (k .entry-at .ensures) (c .before .match .keys7) .0 .1) (asked k .nodes-only) (measured k)
+      operand-below (known k) (is-either (known k) (c .before .match .keys7) .0 .1) (known k .asked .nodes-only) (measured k)
 
   pub union-requires : lts.Need-union-requires (claims t) (image-at t) image.Post
   union-requires c κs = search needs
@@ -184,27 +197,27 @@ module _ (t : ℕ) where
       let other = c .before in
       let one = other .before in
       let k = one .before .before in
-      rw (is-either (given k) (asked k) (k .entry-at .ensures) (one .before .match .keys7) .1)
+      rw (is-either (known k) (one .before .match .keys7) .1)
       (walk-either (tree k) _ _ (start k .args .back) (one .image5 .ensures) (other .image6 .ensures) (c .union .ensures))
 
   -- zero or more times
   pub star-requires : lts.Need-star-requires (claims t) (image-at t) image.Post
   star-requires c κs =
       let k = c .before in
-      operand (given k) (asked k) (k .entry-at .ensures) (is-star (given k) (asked k) (k .entry-at .ensures) (c .match .keys8) .0) (asked k .nodes-only) (measured k)
+      operand (known k) (is-star (known k) (c .match .keys8) .0) (known k .asked .nodes-only) (measured k)
 
   pub returns-10 : lts.Need-returns-10 (claims t) (image-at t) image.Post
   returns-10 c =
       let k = c .before .before in
-      rw (is-star (given k) (asked k) (k .entry-at .ensures) (c .before .match .keys8) .1) (walk-star (tree k) (start k .args .back) _ (c .star .ensures))
+      rw (is-star (known k) (c .before .match .keys8) .1) (walk-star (tree k) (start k .args .back) _ (c .star .ensures))
 
   -- self is the one path that is left
   pub returns-11 : lts.Need-returns-11 (claims t) (image-at t) image.Post
   returns-11 c =
       let k = c .before in
-      let numbers = rw (← k .entry-at .ensures .kind) at (path-kind (entries (now (start k .args .table))) (start k .args .e) (asked k .sort)) in
+      let numbers = rw (← k .entry-at .ensures .kind) at (path-kind (entries (now (start k .args .table))) (start k .args .e) (known k .asked .sort)) in
       let left = c .match .rest in
       let to-five = down 6 (down 7 (down 8 (down 9 (numbers .1) (left .1)) (left .0 .1)) (left .0 .0 .1)) (left .0 .0 .0 .1) in
       let to-one = down 2 (down 3 (down 4 (down 5 to-five (left .0 .0 .0 .0 .1)) (left .0 .0 .0 .0 .0 .1)) (left .0 .0 .0 .0 .0 .0 .1)) (left .0 .0 .0 .0 .0 .0 .0 .1) in
       let is = le-antisymm to-one (numbers .0) in
-      rw (is-self (given k) (asked k) (k .entry-at .ensures) is) (walk-self (tree k) (start k .args .back))
+      rw (is-self (known k) is) (walk-self (tree k) (start k .args .back))

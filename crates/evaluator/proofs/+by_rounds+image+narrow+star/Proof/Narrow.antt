@@ -17,10 +17,9 @@ use Rattle.query.specs.Table.{entries, pathAt}
 use Rattle.query.proofs.Standing.{filter-kind}
 use Rattle.query.proofs.Turn.{turn-right}
 use Rattle.sets.specs.Sets.{Inside}
-use Rattle.evaluator.specs.Evaluator.{Grounds, Asked}
 use Rattle.evaluator.proofs.Images.{Stays, narrowed-inside}
 use Rattle.evaluator.proofs.Filters.{narrow-empty, narrow-always, narrow-never, narrow-leads, narrow-not, narrow-and, narrow-or}
-use Rattle.evaluator.proofs.Operands.{operand-below, is-labelled, is-leads, is-always, is-never, is-not, is-and, is-or}
+use Rattle.evaluator.proofs.Operands.{Known, operand-below, is-labelled, is-leads, is-always, is-never, is-not, is-and, is-or}
 use Rattle.evaluator.proofs.Walks.{walk-stays}
 use Rattle.evaluator.proofs.+by_rounds+image+narrow+star.Proof.Measures.{narrow-at, image-below, narrow-below}
 use Rattle.evaluator.proofs.+by_rounds+image+narrow+star.Lts-narrow as lts
@@ -58,17 +57,14 @@ module _ (t : ℕ) where
     abbrev tree : Tree
     tree = nodes (now (start .args .roll))
 
-    given : Grounds (now (start .args .roll)) (now (start .args .table)) (now (start .args .next)) (now (start .args .previous))
-    given = start .pre .1 .0
-
-    asked : Asked (now (start .args .roll)) (now (start .args .table)) filter (start .args .e) (start .args .from)
-    asked = start .pre .1 .1
+    known : Known (now (start .args .roll)) (now (start .args .table)) (now (start .args .next)) (now (start .args .previous)) filter (start .args .e) (start .args .from) (c .entry-at .result)
+    known = record { grounds = start .pre .1 .0; asked = start .pre .1 .1; fields = c .entry-at .ensures }
 
     measured : 3 * start .args .e ≡ t
     measured = start .pre .0
 
     stays : (p : Path) → Stays (length tree) (reach tree p)
-    stays p = walk-stays tree (roll-in-order (given .roll-right)) p
+    stays p = walk-stays tree (roll-in-order (known .grounds .roll-right)) p
 
   -- label is the given one
   pub labelled-requires : lts.Need-labelled-requires (claims t) (narrow-at t) narrow.Post
@@ -78,7 +74,7 @@ module _ (t : ℕ) where
   unfolding holds
   returns-2 c =
       let k = c .before .before in
-      rw (is-labelled (given k) (asked k) (k .entry-at .ensures) (c .before .match .keys1)) (c .labelled .ensures)
+      rw (is-labelled (known k) (c .before .match .keys1)) (c .labelled .ensures)
 
   -- left leads somewhere
   pub count-requires : lts.Need-count-requires (claims t) (narrow-at t) narrow.Post
@@ -87,13 +83,13 @@ module _ (t : ℕ) where
   pub below-requires : lts.Need-below-requires (claims t) (narrow-at t) narrow.Post
   below-requires c κs =
       let k = c .before .before in
-      omega (arith, c .count .ensures, roll-most (given k .roll-right))
+      omega (arith, c .count .ensures, roll-most (known k .grounds .roll-right))
 
   pub image-requires : lts.Need-image-requires (claims t) (narrow-at t) narrow.Post
   image-requires c κs =
       let k = c .before .before .before in
       let inside : Inside (length (tree k)) (c .below .result) = λ i x. rw (c .before .count .ensures) at (c .below .ensures .exact i .0 x) in
-      operand-below (given k) (asked k) (k .entry-at .ensures) (is-leads (given k) (asked k) (k .entry-at .ensures) (c .before .before .match .keys2) .0) inside (measured k)
+      operand-below (known k) (is-leads (known k) (c .before .before .match .keys2) .0) inside (measured k)
 
   pub common-requires : lts.Need-common-requires (claims t) (narrow-at t) narrow.Post
   common-requires c κs = search needs
@@ -105,19 +101,19 @@ module _ (t : ℕ) where
       let all = ends .before in
       let k = all .before .before .before in
       let p = pathAt (entries (now (start k .args .table))) (k .entry-at .result .left) in
-      rw (is-leads (given k) (asked k) (k .entry-at .ensures) (all .before .before .match .keys2) .1)
-      (narrow-leads (turn-right (tree k) p) (stays k p) (asked k .nodes-only) (rw (all .before .count .ensures) at (all .below .ensures)) (ends .image .ensures) (c .common .ensures))
+      rw (is-leads (known k) (all .before .before .match .keys2) .1)
+      (narrow-leads (turn-right (tree k) p) (stays k p) (known k .asked .nodes-only) (rw (all .before .count .ensures) at (all .below .ensures)) (ends .image .ensures) (c .common .ensures))
 
   -- true
   pub returns-4 : lts.Need-returns-4 (claims t) (narrow-at t) narrow.Post
   unfolding holds
-  returns-4 c = let k = c .before in rw (is-always (given k) (asked k) (k .entry-at .ensures) (c .match .keys3)) narrow-always
+  returns-4 c = let k = c .before in rw (is-always (known k) (c .match .keys3)) narrow-always
 
   -- not
   pub narrow-requires : lts.Need-narrow-requires (claims t) (narrow-at t) narrow.Post
   narrow-requires c κs =
       let k = c .before in
-      operand-below (given k) (asked k) (k .entry-at .ensures) (is-not (given k) (asked k) (k .entry-at .ensures) (c .match .keys4) .0) (asked k .nodes-only) (measured k)
+      operand-below (known k) (is-not (known k) (c .match .keys4) .0) (known k .asked .nodes-only) (measured k)
 
   pub difference-requires : lts.Need-difference-requires (claims t) (narrow-at t) narrow.Post
   difference-requires c κs = search needs
@@ -126,31 +122,31 @@ module _ (t : ℕ) where
   unfolding holds
   returns-5 c =
       let k = c .before .before .before in
-      rw (is-not (given k) (asked k) (k .entry-at .ensures) (c .before .before .match .keys4) .1) (narrow-not (c .before .narrow .ensures) (c .difference .ensures))
+      rw (is-not (known k) (c .before .before .match .keys4) .1) (narrow-not (c .before .narrow .ensures) (c .difference .ensures))
 
   -- and
   pub narrow-requires-2 : lts.Need-narrow-requires-2 (claims t) (narrow-at t) narrow.Post
   narrow-requires-2 c κs =
       let k = c .before in
-      operand-below (given k) (asked k) (k .entry-at .ensures) (is-and (given k) (asked k) (k .entry-at .ensures) (c .match .keys5) .0 .0) (asked k .nodes-only) (measured k)
+      operand-below (known k) (is-and (known k) (c .match .keys5) .0 .0) (known k .asked .nodes-only) (measured k)
 
   pub narrow-requires-3 : lts.Need-narrow-requires-3 (claims t) (narrow-at t) narrow.Post
   narrow-requires-3 c κs =
       let k = c .before .before in
-      let inside = narrowed-inside (asked k .nodes-only) (c .narrow2 .ensures) in
-      operand-below (given k) (asked k) (k .entry-at .ensures) (is-and (given k) (asked k) (k .entry-at .ensures) (c .before .match .keys5) .0 .1) inside (measured k)
+      let inside = narrowed-inside (known k .asked .nodes-only) (c .narrow2 .ensures) in
+      operand-below (known k) (is-and (known k) (c .before .match .keys5) .0 .1) inside (measured k)
 
   pub returns-6 : lts.Need-returns-6 (claims t) (narrow-at t) narrow.Post
   unfolding holds
   returns-6 c =
       let k = c .before .before .before in
-      rw (is-and (given k) (asked k) (k .entry-at .ensures) (c .before .before .match .keys5) .1) (narrow-and (c .before .narrow2 .ensures) (c .narrow3 .ensures))
+      rw (is-and (known k) (c .before .before .match .keys5) .1) (narrow-and (c .before .narrow2 .ensures) (c .narrow3 .ensures))
 
   -- or
   pub narrow-requires-4 : lts.Need-narrow-requires-4 (claims t) (narrow-at t) narrow.Post
   narrow-requires-4 c κs =
       let k = c .before in
-      operand-below (given k) (asked k) (k .entry-at .ensures) (is-or (given k) (asked k) (k .entry-at .ensures) (c .match .keys6) .0 .0) (asked k .nodes-only) (measured k)
+      operand-below (known k) (is-or (known k) (c .match .keys6) .0 .0) (known k .asked .nodes-only) (measured k)
 
   pub difference-requires-2 : lts.Need-difference-requires-2 (claims t) (narrow-at t) narrow.Post
   difference-requires-2 c κs = search needs
@@ -158,8 +154,8 @@ module _ (t : ℕ) where
   pub narrow-requires-5 : lts.Need-narrow-requires-5 (claims t) (narrow-at t) narrow.Post
   narrow-requires-5 c κs =
       let k = c .before .before .before in
-      let inside = narrowed-inside (asked k .nodes-only) (c .difference2 .ensures) in
-      operand-below (given k) (asked k) (k .entry-at .ensures) (is-or (given k) (asked k) (k .entry-at .ensures) (c .before .before .match .keys6) .0 .1) inside (measured k)
+      let inside = narrowed-inside (known k .asked .nodes-only) (c .difference2 .ensures) in
+      operand-below (known k) (is-or (known k) (c .before .before .match .keys6) .0 .1) inside (measured k)
 
   pub union-requires : lts.Need-union-requires (claims t) (narrow-at t) narrow.Post
   union-requires c κs = search needs
@@ -171,7 +167,7 @@ module _ (t : ℕ) where
       let rest = second .before in
       let first = rest .before in
       let k = first .before .before in
-      rw (is-or (given k) (asked k) (k .entry-at .ensures) (first .before .match .keys6) .1)
+      rw (is-or (known k) (first .before .match .keys6) .1)
       (narrow-or (first .narrow4 .ensures) (rest .difference2 .ensures) (second .narrow5 .ensures) (c .union .ensures))
 
   -- false is the one filter that is left
@@ -182,6 +178,6 @@ module _ (t : ℕ) where
   unfolding holds
   returns-8 c =
       let k = c .before .before in
-      let numbers = rw (← k .entry-at .ensures .kind) at (filter-kind (entries (now (start k .args .table))) (start k .args .e) (asked k .sort)) in
+      let numbers = rw (← k .entry-at .ensures .kind) at (filter-kind (entries (now (start k .args .table))) (start k .args .e) (known k .asked .sort)) in
       let is : k .entry-at .result .kind ≡ 19 = omega (arith, numbers, c .before .match .rest) in
-      rw (is-never (given k) (asked k) (k .entry-at .ensures) is) (narrow-never (c .empty .ensures))
+      rw (is-never (known k) is) (narrow-never (c .empty .ensures))
