@@ -44,7 +44,8 @@ module _ {roll tab : Bytes} {next previous : List ℕ} {s : Sort} {e : ℕ} {fro
   unfolding OperandField
   operand (l, h) inside m = (omega arith, (k .grounds, record { within = omega (arith, k .asked .within); sort = h; nodes-only = inside }))
 
-  pub operand-below : {o : Sort} {x t : ℕ} {set : List ℕ} → OperandField (entries tab) e (of o) x → Inside (length (nodes roll)) set → 3 * e ≡ t
+  pub operand-below : {o : Sort} {x t : ℕ} {set : List ℕ} → OperandField (entries tab) e (of o) x → Inside (length (nodes roll)) set
+      → 3 * e ≡ t
       → (3 * x < t) × (Grounds roll tab next previous × Asked roll tab o x set)
   operand-below o inside m = let (l, more) = operand o inside m in (omega arith, more)
 
@@ -73,23 +74,28 @@ module _ {roll tab : Bytes} {next previous : List ℕ} {s : Sort} {e : ℕ} {fro
   abbrev pub Both : Sort → Type 0
   Both o = OperandField (entries tab) e (of o) (read .left) × OperandField (entries tab) e (of o) (read .right)
 
-  pub is-stay : read .kind ≡ 6 → OperandField (entries tab) e (of filter) (read .left) × (pathAt (entries tab) e ≡ syntax.stay (filterAt (entries tab) (read .left)))
+  pub is-stay : read .kind ≡ 6
+      → OperandField (entries tab) e (of filter) (read .left) × (pathAt (entries tab) e ≡ syntax.stay (filterAt (entries tab) (read .left)))
   is-stay is = standing.stay-stands (entries tab) e (k .asked .within) (entryOf read) same-entry right is
 
-  pub is-then : read .kind ≡ 7 → Both path × (pathAt (entries tab) e ≡ syntax.then (pathAt (entries tab) (read .left)) (pathAt (entries tab) (read .right)))
+  pub is-then : read .kind ≡ 7
+      → Both path × (pathAt (entries tab) e ≡ syntax.then (pathAt (entries tab) (read .left)) (pathAt (entries tab) (read .right)))
   is-then is = standing.then-stands (entries tab) e (k .asked .within) (entryOf read) same-entry right is
 
-  pub is-either : read .kind ≡ 8 → Both path × (pathAt (entries tab) e ≡ syntax.either (pathAt (entries tab) (read .left)) (pathAt (entries tab) (read .right)))
+  pub is-either : read .kind ≡ 8
+      → Both path × (pathAt (entries tab) e ≡ syntax.either (pathAt (entries tab) (read .left)) (pathAt (entries tab) (read .right)))
   is-either is = standing.either-stands (entries tab) e (k .asked .within) (entryOf read) same-entry right is
 
-  pub is-star : read .kind ≡ 9 → OperandField (entries tab) e (of path) (read .left) × (pathAt (entries tab) e ≡ syntax.star (pathAt (entries tab) (read .left)))
+  pub is-star : read .kind ≡ 9
+      → OperandField (entries tab) e (of path) (read .left) × (pathAt (entries tab) e ≡ syntax.star (pathAt (entries tab) (read .left)))
   is-star is = standing.star-stands (entries tab) e (k .asked .within) (entryOf read) same-entry right is
 
   pub is-labelled : read .kind ≡ 16 → filterAt (entries tab) e ≡ syntax.labelled (read .label)
   unfolding kinds find build theFilter
   is-labelled is = standing.filter-stands (entries tab) e (k .asked .within) (entryOf read) same-entry 16 _ refl is
 
-  pub is-leads : read .kind ≡ 17 → OperandField (entries tab) e (of path) (read .left) × (filterAt (entries tab) e ≡ syntax.leads (pathAt (entries tab) (read .left)))
+  pub is-leads : read .kind ≡ 17
+      → OperandField (entries tab) e (of path) (read .left) × (filterAt (entries tab) e ≡ syntax.leads (pathAt (entries tab) (read .left)))
   is-leads is = standing.leads-stands (entries tab) e (k .asked .within) (entryOf read) same-entry right is
 
   pub is-always : read .kind ≡ 18 → filterAt (entries tab) e ≡ syntax.always
@@ -100,11 +106,14 @@ module _ {roll tab : Bytes} {next previous : List ℕ} {s : Sort} {e : ℕ} {fro
   unfolding kinds find build theFilter
   is-never is = standing.filter-stands (entries tab) e (k .asked .within) (entryOf read) same-entry 19 _ refl is
 
-  pub is-not : read .kind ≡ 20 → OperandField (entries tab) e (of filter) (read .left) × (filterAt (entries tab) e ≡ syntax.not (filterAt (entries tab) (read .left)))
+  pub is-not : read .kind ≡ 20
+      → OperandField (entries tab) e (of filter) (read .left) × (filterAt (entries tab) e ≡ syntax.not (filterAt (entries tab) (read .left)))
   is-not is = standing.not-stands (entries tab) e (k .asked .within) (entryOf read) same-entry right is
 
-  pub is-and : read .kind ≡ 21 → Both filter × (filterAt (entries tab) e ≡ syntax.and (filterAt (entries tab) (read .left)) (filterAt (entries tab) (read .right)))
+  pub is-and : read .kind ≡ 21
+      → Both filter × (filterAt (entries tab) e ≡ syntax.and (filterAt (entries tab) (read .left)) (filterAt (entries tab) (read .right)))
   is-and is = standing.and-stands (entries tab) e (k .asked .within) (entryOf read) same-entry right is
 
-  pub is-or : read .kind ≡ 22 → Both filter × (filterAt (entries tab) e ≡ syntax.or (filterAt (entries tab) (read .left)) (filterAt (entries tab) (read .right)))
+  pub is-or : read .kind ≡ 22
+      → Both filter × (filterAt (entries tab) e ≡ syntax.or (filterAt (entries tab) (read .left)) (filterAt (entries tab) (read .right)))
   is-or is = standing.or-stands (entries tab) e (k .asked .within) (entryOf read) same-entry right is

@@ -56,7 +56,8 @@ module _ {n : ℕ} {R : ℕ → ℕ → Type 0} {from : List ℕ} where
         step-on i j x r (no out) = inr (d .exact j .1 (a .exact j .1 (i, x, r), out))
 
     -- a round that has something new adds to what was gone on from
-    pub round-adds : {grown : List ℕ} → n ≤ 4096 → ¬ ((k : ℕ) → ¬ In fresh k) → Holds (λ k. In all k ⊎ In fresh k) grown → sizeOf all < sizeOf grown
+    pub round-adds : {grown : List ℕ} → n ≤ 4096 → ¬ ((k : ℕ) → ¬ In fresh k) → Holds (λ k. In all k ⊎ In fresh k) grown
+        → sizeOf all < sizeOf grown
     round-adds most some g =
         size-grown (λ k x. lt-of-lt-of-le (so-far .nodes-only k (g .exact k .0 x)) most) (λ k x. g .exact k .1 (inl x))
         (λ same. some (λ k x. so-far .apart k x (same k (g .exact k .1 (inr x)))))

@@ -48,18 +48,21 @@ module _ (t : Tree) where
 
     module _ (p q : Path) where
       -- forwards, the left path comes first
-      pub walk-then : (back : Bool) {halfway r : List ℕ} → back ≡ false → Walked back p from halfway → Walked back q halfway r → Walked back (then p q) from r
+      pub walk-then : (back : Bool) {halfway r : List ℕ} → back ≡ false → Walked back p from halfway → Walked back q halfway r
+          → Walked back (then p q) from r
       unfolding reach
       walk-then true e a b = let z : _≡_ {A = ℕ} 0 1 = cc in absurd (omega arith)
       walk-then false e a b = image-then a b
 
       -- and backwards the right one
-      pub walk-then-back : (back : Bool) {halfway r : List ℕ} → back ≡ true → Walked back q from halfway → Walked back p halfway r → Walked back (then p q) from r
+      pub walk-then-back : (back : Bool) {halfway r : List ℕ} → back ≡ true → Walked back q from halfway → Walked back p halfway r
+          → Walked back (then p q) from r
       unfolding reach turn
       walk-then-back true e a b = image-then a b
       walk-then-back false e a b = let z : _≡_ {A = ℕ} 0 1 = cc in absurd (omega arith)
 
-      pub walk-either : (back : Bool) {one other r : List ℕ} → Walked back p from one → Walked back q from other → Holds (λ k. In one k ⊎ In other k) r
+      pub walk-either : (back : Bool) {one other r : List ℕ} → Walked back p from one → Walked back q from other
+          → Holds (λ k. In one k ⊎ In other k) r
           → Walked back (either p q) from r
       unfolding reach turn
       walk-either true a b u = image-either a b u

@@ -137,7 +137,8 @@ every test [] = true
 every test (row ∷ more) = test row && every test more
 
 -- a row that is found has the number that was looked for, and passes the test
-found : (test : Row → Bool) (n : ℕ) (rows : List Row) {row : Row} → T (every test rows) → find n rows ≡ some row → T (test row) × (row .number ≡ n)
+found : (test : Row → Bool) (n : ℕ) (rows : List Row) {row : Row} → T (every test rows) → find n rows ≡ some row
+    → T (test row) × (row .number ≡ n)
 unfolding every find
 found test n [] t e = let z : _≡_ {A = ℕ} 0 1 = cc in absurd (omega arith)
 found test n (first ∷ more) {row} t e =
@@ -145,7 +146,8 @@ found test n (first ∷ more) {row} t e =
     go here (found test n more rest) (eqb n (first .number)) refl e
   where
     go : T (test first) → (find n more ≡ some row → T (test row) × (row .number ≡ n))
-        → (b : Bool) → eqb n (first .number) ≡ b → elim b [ true ↦ some first | false ↦ find n more ] ≡ some row → T (test row) × (row .number ≡ n)
+        → (b : Bool) → eqb n (first .number) ≡ b → elim b [ true ↦ some first | false ↦ find n more ] ≡ some row
+        → T (test row) × (row .number ≡ n)
     go here rest true h x =
         let same : first ≡ row = cc in
         (subst (λ (r : Row). T (test r)) same here, ap (λ (r : Row). r .number) (sym same) ∙ sym (eqb-true n (first .number) h))

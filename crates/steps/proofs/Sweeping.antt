@@ -33,7 +33,8 @@ abbrev pub Coming : Bool → ℕ → ℕ → ℕ → Type 0
 Coming falling n k i = (falling ≡ true → i + k + 1 ≡ n) × (falling ≡ false → i ≡ k)
 
 -- it is a node
-pub coming-node : (falling : Bool) {n k i : ℕ} → k < n → (falling ≡ true → i + k ≡ n - 1) × (falling ≡ false → i ≡ k) → (i < n) × Coming falling n k i
+pub coming-node : (falling : Bool) {n k i : ℕ} → k < n → (falling ≡ true → i + k ≡ n - 1) × (falling ≡ false → i ≡ k)
+    → (i < n) × Coming falling n k i
 coming-node true l at = let e = at .0 refl in (omega arith, (λ f. omega arith, at .1))
 coming-node false l at = let e = at .1 refl in (omega arith, (λ f. let z : _≡_ {A = ℕ} 0 1 = cc in absurd (omega arith), at .1))
 
@@ -72,7 +73,8 @@ module _ {R : ℕ → ℕ → Type 0} {falling : Bool} {n : ℕ} {from : List �
       none false i p l = omega arith
 
   -- the sweep goes on from the node that comes next
-  pub more-swept : {set after : List ℕ} {k i : ℕ} → Swept R falling n from k set → Coming falling n k i → Added (λ j. In set i × R i j) set after
+  pub more-swept : {set after : List ℕ} {k i : ℕ} → Swept R falling n from k set → Coming falling n k i
+      → Added (λ j. In set i × R i j) set after
       → Swept R falling n from (k + 1) after
   more-swept {set} {after} {k} {i} s come add = record {
     start = λ m x. add .exact m .1 (inl (s .start m x));
