@@ -1,5 +1,6 @@
 // Call 3: a query is answered on a roll, and a set of nodes is given as a bitmap.
 use checks::ready_to_answer;
+use evaluator::Course;
 use evaluator::image;
 use links::NONE;
 use links::link;
@@ -48,7 +49,7 @@ pub fn reached(roll: &[u8], query: &[u8], start: usize) -> [u64; 64]
         &previous,
         query,
         entries_of(query) - 1,
-        false,
+        Course::Forwards,
         from,
     )
 }

@@ -1,11 +1,10 @@
 -- A set narrowed to where a filter holds, for each filter that is made of others. Assumes nothing.
-use Prim.Native.Nat.{ℕ, _<_}
+use Prim.Native.Nat.{ℕ}
 use mathlib.Core.Path.{_≡_}
 use mathlib.Core.Logic.{_↔_, _⊎_, inl, inr, ⊎-elim}
 use mathlib.Core.List.{List}
-use Rattle.sets.specs.Sets.{In, Holds, Image, Narrowed, Inside}
+use Rattle.sets.specs.Sets.{In, Holds, Image, Narrowed}
 use Rattle.sets.proofs.Size.{dec-in}
-use Rattle.evaluator.proofs.Images.{Stays}
 
 module _ {from : List ℕ} where
   -- nothing is narrowed to nothing
@@ -19,14 +18,13 @@ module _ {from : List ℕ} where
   pub narrow-never : {r : List ℕ} → Holds (λ k. ⊥) r → Narrowed (λ k. ⊥) from r
   narrow-never e = record { exact = λ k. (λ x. absurd (e .exact k .0 x), λ x. absurd (x .1)) }
 
-  -- "left leads somewhere": who is in the image of all nodes under the relation turned round
-  pub narrow-leads : {n : ℕ} {R S : ℕ → ℕ → Type 0} {all starts r : List ℕ} → ((i j : ℕ) → S i j ↔ R j i) → Stays n R
-      → Inside n from → Holds (λ k. k < n) all → Image S all starts → Holds (λ k. In from k × In starts k) r
-      → Narrowed (λ k. (j : ℕ) × R k j) from r
-  narrow-leads turned stays inside every a both = record {
+  -- "left leads somewhere": who is in the image, under the relation turned round, of all that it could lead to
+  pub narrow-leads : {R Free Back : ℕ → ℕ → Type 0} {ends starts r : List ℕ} → ((i j : ℕ) → R i j → Free i j) → ((i j : ℕ) → Back i j ↔ R j i)
+      → Image Free from ends → Image Back ends starts → Holds (λ k. In from k × In starts k) r → Narrowed (λ k. (j : ℕ) × R k j) from r
+  narrow-leads loose turned a b both = record {
     exact = λ k. (
-      λ x. let (y, z) = both .exact k .0 x in let (j, w, p) = a .exact k .0 z in (y, (j, turned j k .0 p)),
-      λ (x, y). both .exact k .1 (x, a .exact k .1 (y .0, every .exact (y .0) .1 (stays k (y .0) (inside k x) (y .1)), turned (y .0) k .1 (y .1))),
+      λ x. let (y, z) = both .exact k .0 x in let (j, w, p) = b .exact k .0 z in (y, (j, turned j k .0 p)),
+      λ (x, y). let (j, p) = y in both .exact k .1 (x, b .exact k .1 (j, a .exact j .1 (k, x, loose k j p), turned j k .1 p)),
     );
   }
 

@@ -1,31 +1,37 @@
--- The image of a set under each kind of path, walked either way. Assumes nothing.
+-- The image of a set under each kind of path, on each course. Assumes nothing.
 use Prim.Native.Nat.{ℕ}
 use native.Mathlib.Omega.{arith}
-use mathlib.Core.Path.{_≡_}
-use mathlib.Core.Logic.{_↔_, _⊎_, Iff·rfl}
+use mathlib.Core.Path.{_≡_, sym}
+use mathlib.Core.Logic.{_↔_, _⊎_, Iff·rfl, Iff·symm, Iff·trans}
 use mathlib.Core.Bool.{Bool, true, false}
 use mathlib.Core.List.{List}
 use lib.ListN.{length}
 use Rattle.tree.specs.Tree.{Tree, InOrder}
 use Rattle.query.specs.Syntax.{Path, Filter, self, stay, then, either, star}
 use Rattle.query.specs.Meaning.{Star, reach, holds}
-use Rattle.query.specs.Turn.{turn}
+use Rattle.query.specs.Turn.{turn, free}
 use Rattle.query.proofs.Inside.{reach-inside}
+use Rattle.query.proofs.Turn.{turn-right}
 use Rattle.sets.specs.Sets.{In, Holds, Image, Narrowed}
 use Rattle.steps.specs.Axis.{Along}
 use Rattle.steps.specs.declared.axis.Axis.{Axis}
 use Rattle.steps.specs.declared.axis.Axis.the-variants.{Child, Parent, Next, Previous}
-use Rattle.evaluator.specs.Evaluator.{facing, pathOf}
+use Rattle.evaluator.specs.declared.course.Course.{Course}
+use Rattle.evaluator.specs.declared.course.Course.the-variants.{Forwards, Backwards, Freely}
+use Rattle.evaluator.specs.Course.{facing, pathOf, backwards, freely}
 use Rattle.evaluator.proofs.Images.{Stays, image-self, image-stay, image-then, image-either}
+
+true≢false : ¬ (_≡_ {A = Bool} true false)
+true≢false e = let z : _≡_ {A = ℕ} 0 1 = cc in omega arith
 
 module _ (t : Tree) where
   -- a path stays among the nodes, walked either way
   pub walk-stays : InOrder t → (p : Path) → Stays (length t) (reach t p)
   walk-stays o p i j l r = reach-inside t o p l r
 
-  -- what the path reaches from a set, walked forwards or backwards
-  abbrev pub Walked : Bool → Path → List ℕ → List ℕ → Type 0
-  Walked back p from r = Image (reach t (facing back p)) from r
+  -- what the path reaches from a set, on a course
+  abbrev pub Walked : Course → Path → List ℕ → List ℕ → Type 0
+  Walked course p from r = Image (reach t (facing course p)) from r
 
   -- an axis leads where its path does
   pub axis-leads : (axis : Axis) (i j : ℕ) → Along t axis i j ↔ reach t (pathOf axis) i j
@@ -35,40 +41,68 @@ module _ (t : Tree) where
   axis-leads Next i j = Iff·rfl
   axis-leads Previous i j = Iff·rfl
 
-  module _ {from : List ℕ} where
-    pub walk-self : (back : Bool) → Walked back self from from
-    unfolding reach turn
-    walk-self true = image-self
-    walk-self false = image-self
+  -- on every course but backwards, and backwards
+  pub axis-faces : (course : Course) (axis : Axis) → backwards course ≡ false → (i j : ℕ) → Along t axis i j ↔ reach t (facing course (pathOf axis)) i j
+  unfolding free
+  axis-faces Forwards axis e = axis-leads axis
+  axis-faces Backwards axis e = absurd (true≢false e)
+  axis-faces Freely Child e = axis-leads Child
+  axis-faces Freely Parent e = axis-leads Parent
+  axis-faces Freely Next e = axis-leads Next
+  axis-faces Freely Previous e = axis-leads Previous
 
-    pub walk-stay : (back : Bool) (f : Filter) {r : List ℕ} → Narrowed (holds t f) from r → Walked back (stay f) from r
+  pub axis-turned : (course : Course) (axis way : Axis) → backwards course ≡ true → ((i j : ℕ) → Along t way i j ↔ Along t axis j i)
+      → (i j : ℕ) → Along t way i j ↔ reach t (facing course (pathOf axis)) i j
+  axis-turned Forwards axis way e turned i j = absurd (true≢false (sym e))
+  axis-turned Backwards axis way e turned i j = Iff·trans (turned i j) (Iff·trans (axis-leads axis j i) (Iff·symm (turn-right t (pathOf axis) i j)))
+  axis-turned Freely axis way e turned i j = absurd (true≢false (sym e))
+
+  module _ {from : List ℕ} where
+    pub walk-self : (course : Course) → Walked course self from from
+    unfolding reach turn free
+    walk-self Forwards = image-self
+    walk-self Backwards = image-self
+    walk-self Freely = image-self
+
+    -- a filter taken to hold keeps the set
+    pub walk-free : (course : Course) (f : Filter) → freely course ≡ true → Walked course (stay f) from from
+    unfolding reach free
+    walk-free Forwards f e = absurd (true≢false (sym e))
+    walk-free Backwards f e = absurd (true≢false (sym e))
+    walk-free Freely f e = image-self
+
+    pub walk-stay : (course : Course) (f : Filter) {r : List ℕ} → freely course ≡ false → Narrowed (holds t f) from r → Walked course (stay f) from r
     unfolding reach turn
-    walk-stay true f n = image-stay n
-    walk-stay false f n = image-stay n
+    walk-stay Forwards f e n = image-stay n
+    walk-stay Backwards f e n = image-stay n
+    walk-stay Freely f e n = absurd (true≢false e)
 
     module _ (p q : Path) where
       -- forwards, the left path comes first
-      pub walk-then : (back : Bool) {halfway r : List ℕ} → back ≡ false → Walked back p from halfway → Walked back q halfway r
-          → Walked back (then p q) from r
-      unfolding reach
-      walk-then true e a b = let z : _≡_ {A = ℕ} 0 1 = cc in absurd (omega arith)
-      walk-then false e a b = image-then a b
+      pub walk-then : (course : Course) {halfway r : List ℕ} → backwards course ≡ false → Walked course p from halfway → Walked course q halfway r
+          → Walked course (then p q) from r
+      unfolding reach free
+      walk-then Forwards e a b = image-then a b
+      walk-then Backwards e a b = absurd (true≢false e)
+      walk-then Freely e a b = image-then a b
 
       -- and backwards the right one
-      pub walk-then-back : (back : Bool) {halfway r : List ℕ} → back ≡ true → Walked back q from halfway → Walked back p halfway r
-          → Walked back (then p q) from r
+      pub walk-then-back : (course : Course) {halfway r : List ℕ} → backwards course ≡ true → Walked course q from halfway → Walked course p halfway r
+          → Walked course (then p q) from r
       unfolding reach turn
-      walk-then-back true e a b = image-then a b
-      walk-then-back false e a b = let z : _≡_ {A = ℕ} 0 1 = cc in absurd (omega arith)
+      walk-then-back Forwards e a b = absurd (true≢false (sym e))
+      walk-then-back Backwards e a b = image-then a b
+      walk-then-back Freely e a b = absurd (true≢false (sym e))
 
-      pub walk-either : (back : Bool) {one other r : List ℕ} → Walked back p from one → Walked back q from other
-          → Holds (λ k. In one k ⊎ In other k) r
-          → Walked back (either p q) from r
-      unfolding reach turn
-      walk-either true a b u = image-either a b u
-      walk-either false a b u = image-either a b u
+      pub walk-either : (course : Course) {one other r : List ℕ} → Walked course p from one → Walked course q from other
+          → Holds (λ k. In one k ⊎ In other k) r → Walked course (either p q) from r
+      unfolding reach turn free
+      walk-either Forwards a b u = image-either a b u
+      walk-either Backwards a b u = image-either a b u
+      walk-either Freely a b u = image-either a b u
 
-    pub walk-star : (back : Bool) (p : Path) {r : List ℕ} → Image (reach t (star (facing back p))) from r → Walked back (star p) from r
-    unfolding reach turn
-    walk-star true p a = a
-    walk-star false p a = a
+    pub walk-star : (course : Course) (p : Path) {r : List ℕ} → Image (reach t (star (facing course p))) from r → Walked course (star p) from r
+    unfolding turn free
+    walk-star Forwards p a = a
+    walk-star Backwards p a = a
+    walk-star Freely p a = a

@@ -1,19 +1,13 @@
--- What an evaluation rests on, and the two ways in which a path is walked.
+-- What an evaluation rests on.
 use Prim.Native.Nat.{ℕ, _<_}
-use mathlib.Core.Bool.{Bool, true, false}
 use mathlib.Core.List.{List}
 use lib.ListN.{length}
 use Rattle.reply.specs.Bytes.{Bytes}
 use Rattle.roll.specs.Roll.{nodes, Roll}
-use Rattle.query.specs.Syntax as syntax
-use Rattle.query.specs.Syntax.{Path}
 use Rattle.query.specs.Kind.{Sort}
 use Rattle.query.specs.Table.{entries, HasSort, EntryRight}
-use Rattle.query.specs.Turn.{turn}
 use Rattle.sets.specs.Sets.{Inside}
 use Rattle.links.specs.Links.{Siblings}
-use Rattle.steps.specs.declared.axis.Axis.{Axis}
-use Rattle.steps.specs.declared.axis.Axis.the-variants.{Child, Parent, Next, Previous}
 
 -- a roll with its links, and a table whose entries are in order
 pub record Grounds (roll table : Bytes) (next previous : List ℕ) : Type 0 where
@@ -26,15 +20,3 @@ pub record Asked (roll table : Bytes) (s : Sort) (e : ℕ) (from : List ℕ) : T
   pub within : e < length (entries table)
   pub sort : HasSort (entries table) e s
   pub nodes-only : Inside (length (nodes roll)) from
-
--- the path as it is, or walked backwards
-abbrev pub facing : Bool → Path → Path
-facing false p = p
-facing true p = turn p
-
--- the path that is one step along an axis
-abbrev pub pathOf : Axis → Path
-pathOf Child = syntax.child
-pathOf Parent = syntax.parent
-pathOf Next = syntax.next
-pathOf Previous = syntax.previous

@@ -1,7 +1,11 @@
-// Paths and filters on sets of nodes: a path takes a set to its image, forwards or backwards, and a filter narrows a set to the nodes
-// where it holds. The two call each other, and the entry number falls.
-use roll::count;
-use sets::below;
+// Paths and filters on sets of nodes: a path takes a set to its image, and a filter narrows a set to the nodes where it holds. The two
+// call each other, and the entry number falls.
+mod course;
+
+pub use course::Course;
+use course::is_back;
+use course::is_free;
+use course::way;
 use sets::common;
 use sets::difference;
 use sets::empty;
@@ -11,39 +15,28 @@ use steps::Axis;
 use steps::labelled;
 use steps::step;
 use steps::sweep;
-use steps::turned;
 use tables::entry::entry_at;
-ghost use Prim.Native.Nat.{ℕ};
-ghost use mathlib.Core.Logic.{_↔_};
-ghost use Rattle.tree.specs.Tree.{Tree};
 ghost use Rattle.roll.specs.Roll.{nodes};
 ghost use Rattle.query.specs.Kind.{path, filter};
 ghost use Rattle.query.specs.Meaning.{reach, holds};
 ghost use Rattle.query.specs.Syntax as syntax;
 ghost use Rattle.query.specs.Table.{entries, pathAt, filterAt};
 ghost use Rattle.sets.specs.Sets.{Image, Narrowed};
-ghost use Rattle.steps.specs.Axis.{Along};
-ghost use Rattle.evaluator.specs.Evaluator.{Grounds, Asked, facing, pathOf};
+ghost use Rattle.evaluator.specs.Course.{facing};
+ghost use Rattle.evaluator.specs.Evaluator.{Grounds, Asked};
 
-// The axis, or the axis turned round.
-fn way(axis: Axis, back: bool) -> Axis
-    ensures { λ r. ⌜ ((t : Tree) (i j : ℕ) → Along t r i j ↔ reach t (facing back (pathOf axis)) i j) ⌝ }
-{
-    if back { turned(axis) } else { axis }
-}
-
-// What the path of entry e reaches from a set of nodes; backwards, from where it reaches them.
+// What the path of entry e reaches from a set of nodes, on the course given.
 pub fn image(
     roll: &[u8],
     next: &[u16; 4096],
     previous: &[u16; 4096],
     table: &[u8],
     e: usize,
-    back: bool,
+    course: Course,
     from: [u64; 64],
 ) -> [u64; 64]
     requires { ⌜ Grounds (now roll) (now table) (now next) (now previous) × Asked (now roll) (now table) path e from ⌝ }
-    ensures { λ r. ⌜ Image (reach (nodes (now (roll .entry))) (facing back (pathAt (entries (now (table .entry))) e))) from r ⌝ }
+    ensures { λ r. ⌜ Image (reach (nodes (now (roll .entry))) (facing course (pathAt (entries (now (table .entry))) e))) from r ⌝ }
 {
     if is_empty(from) {
         return from;
@@ -53,26 +46,32 @@ pub fn image(
     let left = entry.left;
     let right = entry.right;
     match kind {
-        2 => step(roll, next, previous, way(Axis::Child, back), from),
-        3 => step(roll, next, previous, way(Axis::Parent, back), from),
-        4 => step(roll, next, previous, way(Axis::Next, back), from),
-        5 => step(roll, next, previous, way(Axis::Previous, back), from),
-        6 => narrow(roll, next, previous, table, left, from),
-        7 => {
-            if back {
-                let halfway = image(roll, next, previous, table, right, back, from);
-                image(roll, next, previous, table, left, back, halfway)
+        2 => step(roll, next, previous, way(Axis::Child, course), from),
+        3 => step(roll, next, previous, way(Axis::Parent, course), from),
+        4 => step(roll, next, previous, way(Axis::Next, course), from),
+        5 => step(roll, next, previous, way(Axis::Previous, course), from),
+        6 => {
+            if is_free(course) {
+                from
             } else {
-                let halfway = image(roll, next, previous, table, left, back, from);
-                image(roll, next, previous, table, right, back, halfway)
+                narrow(roll, next, previous, table, left, from)
+            }
+        }
+        7 => {
+            if is_back(course) {
+                let halfway = image(roll, next, previous, table, right, course, from);
+                image(roll, next, previous, table, left, course, halfway)
+            } else {
+                let halfway = image(roll, next, previous, table, left, course, from);
+                image(roll, next, previous, table, right, course, halfway)
             }
         }
         8 => {
-            let one = image(roll, next, previous, table, left, back, from);
-            let other = image(roll, next, previous, table, right, back, from);
+            let one = image(roll, next, previous, table, left, course, from);
+            let other = image(roll, next, previous, table, right, course, from);
             union(one, other)
         }
-        9 => star(roll, next, previous, table, left, back, from),
+        9 => star(roll, next, previous, table, left, course, from),
         _ => from,
     }
 }
@@ -84,19 +83,19 @@ fn star(
     previous: &[u16; 4096],
     table: &[u8],
     e: usize,
-    back: bool,
+    course: Course,
     from: [u64; 64],
 ) -> [u64; 64]
     requires { ⌜ Grounds (now roll) (now table) (now next) (now previous) × Asked (now roll) (now table) path e from ⌝ }
-    ensures { λ r. ⌜ Image (reach (nodes (now (roll .entry))) (syntax.star (facing back (pathAt (entries (now (table .entry))) e)))) from r ⌝ }
+    ensures { λ r. ⌜ Image (reach (nodes (now (roll .entry))) (syntax.star (facing course (pathAt (entries (now (table .entry))) e)))) from r ⌝ }
 {
     let kind = entry_at(table, e).kind;
     match kind {
-        2 => sweep(roll, next, previous, way(Axis::Child, back), from),
-        3 => sweep(roll, next, previous, way(Axis::Parent, back), from),
-        4 => sweep(roll, next, previous, way(Axis::Next, back), from),
-        5 => sweep(roll, next, previous, way(Axis::Previous, back), from),
-        _ => by_rounds(roll, next, previous, table, e, back, from),
+        2 => sweep(roll, next, previous, way(Axis::Child, course), from),
+        3 => sweep(roll, next, previous, way(Axis::Parent, course), from),
+        4 => sweep(roll, next, previous, way(Axis::Next, course), from),
+        5 => sweep(roll, next, previous, way(Axis::Previous, course), from),
+        _ => by_rounds(roll, next, previous, table, e, course, from),
     }
 }
 
@@ -107,17 +106,17 @@ fn by_rounds(
     previous: &[u16; 4096],
     table: &[u8],
     e: usize,
-    back: bool,
+    course: Course,
     from: [u64; 64],
 ) -> [u64; 64]
     requires { ⌜ Grounds (now roll) (now table) (now next) (now previous) × Asked (now roll) (now table) path e from ⌝ }
-    ensures { λ r. ⌜ Image (reach (nodes (now (roll .entry))) (syntax.star (facing back (pathAt (entries (now (table .entry))) e)))) from r ⌝ }
+    ensures { λ r. ⌜ Image (reach (nodes (now (roll .entry))) (syntax.star (facing course (pathAt (entries (now (table .entry))) e)))) from r ⌝ }
 {
     let mut all = empty();
     let mut fresh = from;
     while !is_empty(fresh) {
         let grown = union(all, fresh);
-        let reached = image(roll, next, previous, table, e, back, fresh);
+        let reached = image(roll, next, previous, table, e, course, fresh);
         let rest = difference(reached, grown);
         all = grown;
         fresh = rest;
@@ -125,7 +124,8 @@ fn by_rounds(
     all
 }
 
-// The nodes of a set where the filter of entry e holds. "Leads somewhere" is the image of all nodes backwards.
+// The nodes of a set where the filter of entry e holds. Whether a path leads somewhere is asked backwards from where it could lead if its
+// filters all held: these nodes are found with no filter evaluated, and all that it leads to is among them.
 pub fn narrow(
     roll: &[u8],
     next: &[u16; 4096],
@@ -147,8 +147,8 @@ pub fn narrow(
     match kind {
         16 => labelled(roll, entry.label, from),
         17 => {
-            let all = below(count(roll));
-            let starts = image(roll, next, previous, table, left, true, all);
+            let ends = image(roll, next, previous, table, left, Course::Freely, from);
+            let starts = image(roll, next, previous, table, left, Course::Backwards, ends);
             common(from, starts)
         }
         18 => from,

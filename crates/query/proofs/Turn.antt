@@ -1,12 +1,13 @@
--- Turning a path round: the turned path leads from i to j exactly where the path leads from j to i. Assumes nothing.
+-- Turning a path round: the turned path leads from i to j exactly where the path leads from j to i. And a path whose filters are taken to hold
+-- leads wherever the path does. Assumes nothing.
 use Prim.Native.Nat.{ℕ}
 use mathlib.Core.Path.{_≡_, sym}
 use mathlib.Core.Logic.{_↔_, _⊎_, ⊎-map, Iff·rfl, eq-comm}
 use Rattle.tree.specs.Tree.{Tree}
 use Rattle.query.specs.Syntax.{Path, self, child, parent, next, previous, stay, then, either, star}
 use Rattle.query.specs.Meaning.{Star, stop, step, reach, holds}
-use Rattle.query.specs.Turn.{turn}
-use Rattle.query.proofs.Closure.{star-keeps}
+use Rattle.query.specs.Turn.{turn, free}
+use Rattle.query.proofs.Closure.{star-keeps, star-map}
 
 -- S is the relation R turned round
 abbrev pub Turned : (ℕ → ℕ → Type 0) → (ℕ → ℕ → Type 0) → Type 0
@@ -45,3 +46,16 @@ turn-right t (stay f) i j = (stay-back (holds t f) i j, stay-back (holds t f) j 
 turn-right t (then p q) i j = then-turned (turn-right t p) (turn-right t q) i j
 turn-right t (either p q) i j = either-turned (turn-right t p) (turn-right t q) i j
 turn-right t (star p) i j = star-turned (turn-right t p) i j
+
+-- what a path reaches, it reaches with its filters taken to hold
+pub free-reaches : (t : Tree) (p : Path) (i j : ℕ) → reach t p i j → reach t (free p) i j
+unfolding reach free
+free-reaches t self i j r = r
+free-reaches t child i j r = r
+free-reaches t parent i j r = r
+free-reaches t next i j r = r
+free-reaches t previous i j r = r
+free-reaches t (stay f) i j r = r .0
+free-reaches t (then p q) i j (k, a, b) = (k, free-reaches t p i k a, free-reaches t q k j b)
+free-reaches t (either p q) i j r = ⊎-map (free-reaches t p i j) (free-reaches t q i j) r
+free-reaches t (star p) i j r = star-map (free-reaches t p) r

@@ -1,4 +1,4 @@
--- A path walked backwards. Only inner contracts cite it: an evaluator of paths goes both ways.
+-- A path walked backwards, and a path whose filters are taken to hold. Only inner contracts cite them: an evaluator goes these ways too.
 use Rattle.query.specs.Syntax.{Path, self, child, parent, next, previous, stay, then, either, star}
 
 -- each axis swapped with its opposite, and each composition with its parts in the other order
@@ -12,3 +12,15 @@ turn (stay f) = stay f
 turn (then p q) = then (turn q) (turn p)
 turn (either p q) = either (turn p) (turn q)
 turn (star p) = star (turn p)
+
+-- every filter taken to hold
+unfoldable pub free : Path → Path
+free self = self
+free child = child
+free parent = parent
+free next = next
+free previous = previous
+free (stay f) = self
+free (then p q) = then (free p) (free q)
+free (either p q) = either (free p) (free q)
+free (star p) = star (free p)

@@ -15,7 +15,8 @@ use Rattle.query.specs.Meaning.{reach}
 use Rattle.query.specs.Table.{entries, pathAt}
 use Rattle.sets.proofs.Size.{sizeOf, size-most}
 use Rattle.tree.proofs.Tests.{test-failed, test-passed}
-use Rattle.evaluator.specs.Evaluator.{Grounds, Asked, facing}
+use Rattle.evaluator.specs.Course.{facing}
+use Rattle.evaluator.specs.Evaluator.{Grounds, Asked}
 use Rattle.evaluator.proofs.Rounds.{Rounds, first-round, next-round, round-adds, last-round}
 use Rattle.evaluator.proofs.Walks.{walk-stays}
 use Rattle.evaluator.proofs.+by_rounds+image+narrow+star.Proof.Measures.{by-rounds-at, image-below}
@@ -32,11 +33,11 @@ abbrev pub claims : ℕ → lts.Claims
 claims t = (empty.Asked, empty.Learnt, is-empty.Asked, is-empty.Learnt, union.Asked, union.Learnt, image-below t, image.Post, difference.Asked, difference.Learnt)
 
 abbrev pub Inv-loop : lts.InvT-loop
-Inv-loop roll next previous table e back all₀ fresh₀ all fresh =
-    Rounds (length (nodes roll)) (reach (nodes roll) (facing back (pathAt (entries table) e))) fresh₀ all fresh
+Inv-loop roll next previous table e course all₀ fresh₀ all fresh =
+    Rounds (length (nodes roll)) (reach (nodes roll) (facing course (pathAt (entries table) e))) fresh₀ all fresh
 
 abbrev pub μ-loop : lts.MeasureT-loop
-μ-loop roll next previous table e back all₀ fresh₀ all fresh = 4096 - sizeOf all
+μ-loop roll next previous table e course all₀ fresh₀ all fresh = 4096 - sizeOf all
 
 module _ (t : ℕ) where
   -- at the loop's head: what the function was given

@@ -2,7 +2,7 @@
 -- Assumes nothing.
 use Prim.Native.Nat.{ℕ, _*_, _<_}
 use native.Mathlib.Nat.{le-antisymm}
-use mathlib.Core.Path.{_≡_, sym, subst}
+use mathlib.Core.Path.{_≡_, sym, subst, _∙_}
 use mathlib.Core.List.{List}
 use borrow.Author.Needs.{needs}
 use denote.Ref.{now}
@@ -20,7 +20,7 @@ use Rattle.sets.specs.Sets.{Image, Inside}
 use Rattle.evaluator.specs.Evaluator.{Grounds, Asked}
 use Rattle.evaluator.proofs.Images.{Stays, image-empty, image-inside, image-same}
 use Rattle.evaluator.proofs.Operands.{Known, down, operand, operand-below, is-self, is-child, is-parent, is-next, is-previous, is-stay, is-then, is-either, is-star}
-use Rattle.evaluator.proofs.Walks.{walk-stays, walk-self, walk-stay, walk-then, walk-then-back, walk-either, walk-star}
+use Rattle.evaluator.proofs.Walks.{walk-stays, walk-self, walk-free, walk-stay, walk-then, walk-then-back, walk-either, walk-star}
 use Rattle.evaluator.proofs.+by_rounds+image+narrow+star.Proof.Measures.{image-at, image-below, narrow-below, star-below}
 use Rattle.evaluator.proofs.+by_rounds+image+narrow+star.Lts-image as lts
 use Rattle.evaluator.proofs.image.Reads as image
@@ -30,12 +30,14 @@ use Rattle.sets.proofs.is_empty.Reads as is-empty
 use Rattle.sets.proofs.union.Reads as union
 use Rattle.sets.proofs.empty.Reads as empty
 use Rattle.tables.proofs.entry.entry_at.Reads as entry-at
-use Rattle.evaluator.proofs.way.Reads as way
+use Rattle.evaluator.proofs.course.way.Reads as way
+use Rattle.evaluator.proofs.course.is_back.Reads as is-back
+use Rattle.evaluator.proofs.course.is_free.Reads as is-free
 use Rattle.steps.proofs.step.Reads as step
 
 -- what its callees ask and say
 abbrev pub claims : ℕ → lts.Claims
-claims t = (is-empty.Asked, is-empty.Learnt, entry-at.Asked, entry-at.Learnt, way.Asked, way.Learnt, step.Asked, step.Learnt, narrow-below t, narrow.Post, image-below t, image.Post, union.Asked, union.Learnt, star-below t, star.Post)
+claims t = (is-empty.Asked, is-empty.Learnt, entry-at.Asked, entry-at.Learnt, way.Asked, way.Learnt, step.Asked, step.Learnt, is-free.Asked, is-free.Learnt, narrow-below t, narrow.Post, is-back.Asked, is-back.Learnt, image-below t, image.Post, union.Asked, union.Learnt, star-below t, star.Post)
 
 module _ (t : ℕ) where
   pub is-empty-requires : lts.Need-is-empty-requires (claims t) (image-at t) image.Post
@@ -119,16 +121,28 @@ module _ (t : ℕ) where
       let k = turned .before .before in
       rw (is-previous (known k) (turned .before .match .keys4)) (image-same (turned .way4 .ensures (tree k)) (c .step4 .ensures))
 
-  -- stay if the filter holds
-  pub narrow-requires : lts.Need-narrow-requires (claims t) (image-at t) image.Post
-  narrow-requires c κs =
-      let k = c .before in
-      operand-below (known k) (is-stay (known k) (c .match .keys5) .0) (known k .asked .nodes-only) (measured k)
+  -- stay if the filter holds, or where it is taken to hold
+  pub is-free-requires : lts.Need-is-free-requires (claims t) (image-at t) image.Post
+  is-free-requires c κs = search needs
 
   pub returns-6 : lts.Need-returns-6 (claims t) (image-at t) image.Post
   returns-6 c =
-      let k = c .before .before in
-      rw (is-stay (known k) (c .before .match .keys5) .1) (walk-stay (tree k) (start k .args .back) _ (c .narrow .ensures))
+      let tested = c .before in
+      let k = tested .before .before in
+      rw (is-stay (known k) (tested .before .match .keys5) .1)
+      (walk-free (tree k) (start k .args .course) _ (sym (tested .is-free .ensures) ∙ c .if2 .taken))
+
+  pub narrow-requires : lts.Need-narrow-requires (claims t) (image-at t) image.Post
+  narrow-requires c κs =
+      let k = c .before .before .before in
+      operand-below (known k) (is-stay (known k) (c .before .before .match .keys5) .0) (known k .asked .nodes-only) (measured k)
+
+  pub returns-7 : lts.Need-returns-7 (claims t) (image-at t) image.Post
+  returns-7 c =
+      let tested = c .before .before in
+      let k = tested .before .before in
+      rw (is-stay (known k) (tested .before .match .keys5) .1)
+      (walk-stay (tree k) (start k .args .course) _ (sym (tested .is-free .ensures) ∙ c .before .if2 .left) (c .narrow .ensures))
 
   -- left, then right: both operands can be asked of a set of nodes
   operands : (c : lts.After-entry-at (claims t) (image-at t) image.Post) {set : List ℕ} → c .entry-at .result .kind ≡ 7
@@ -138,45 +152,54 @@ module _ (t : ℕ) where
       let both = is-then (known c) is .0 in
       (operand-below (known c) (both .0) inside (measured c), operand-below (known c) (both .1) inside (measured c))
 
+  pub is-back-requires : lts.Need-is-back-requires (claims t) (image-at t) image.Post
+  is-back-requires c κs = search needs
+
   -- backwards the right path comes first
   pub image-requires : lts.Need-image-requires (claims t) (image-at t) image.Post
   image-requires c κs =
-      let k = c .before .before in
-      let (left, right) = operands k (c .before .match .keys6) (known k .asked .nodes-only) in
+      let m = c .before .before in
+      let (left, right) = operands (m .before) (m .match .keys6) (known (m .before) .asked .nodes-only) in
       search (left, right)
 
   pub image-requires-2 : lts.Need-image-requires-2 (claims t) (image-at t) image.Post
   image-requires-2 c κs =
-      let k = c .before .before .before in
-      let (left, right) = operands k (c .before .before .match .keys6) (image-inside (stays k _) (known k .asked .nodes-only) (c .image .ensures)) in
-      search (left, right)
-
-  pub returns-7 : lts.Need-returns-7 (claims t) (image-at t) image.Post
-  returns-7 c =
-      let first = c .before in
-      let k = first .before .before .before in
-      rw (is-then (known k) (first .before .before .match .keys6) .1)
-      (walk-then-back (tree k) _ _ (start k .args .back) (first .before .if2 .taken) (first .image .ensures) (c .image2 .ensures))
-
-  -- and forwards the left one
-  pub image-requires-3 : lts.Need-image-requires-3 (claims t) (image-at t) image.Post
-  image-requires-3 c κs =
-      let k = c .before .before in
-      let (left, right) = operands k (c .before .match .keys6) (known k .asked .nodes-only) in
-      search (left, right)
-
-  pub image-requires-4 : lts.Need-image-requires-4 (claims t) (image-at t) image.Post
-  image-requires-4 c κs =
-      let k = c .before .before .before in
-      let (left, right) = operands k (c .before .before .match .keys6) (image-inside (stays k _) (known k .asked .nodes-only) (c .image3 .ensures)) in
+      let m = c .before .before .before in
+      let inside = image-inside (stays (m .before) _) (known (m .before) .asked .nodes-only) (c .image .ensures) in
+      let (left, right) = operands (m .before) (m .match .keys6) inside in
       search (left, right)
 
   pub returns-8 : lts.Need-returns-8 (claims t) (image-at t) image.Post
   returns-8 c =
       let first = c .before in
-      let k = first .before .before .before in
-      rw (is-then (known k) (first .before .before .match .keys6) .1)
-      (walk-then (tree k) _ _ (start k .args .back) (first .before .if2 .left) (first .image3 .ensures) (c .image4 .ensures))
+      let tested = first .before .before in
+      let k = tested .before .before in
+      let back = sym (tested .is-back .ensures) ∙ first .before .if3 .taken in
+      rw (is-then (known k) (tested .before .match .keys6) .1)
+      (walk-then-back (tree k) _ _ (start k .args .course) back (first .image .ensures) (c .image2 .ensures))
+
+  -- and forwards the left one
+  pub image-requires-3 : lts.Need-image-requires-3 (claims t) (image-at t) image.Post
+  image-requires-3 c κs =
+      let m = c .before .before in
+      let (left, right) = operands (m .before) (m .match .keys6) (known (m .before) .asked .nodes-only) in
+      search (left, right)
+
+  pub image-requires-4 : lts.Need-image-requires-4 (claims t) (image-at t) image.Post
+  image-requires-4 c κs =
+      let m = c .before .before .before in
+      let inside = image-inside (stays (m .before) _) (known (m .before) .asked .nodes-only) (c .image3 .ensures) in
+      let (left, right) = operands (m .before) (m .match .keys6) inside in
+      search (left, right)
+
+  pub returns-9 : lts.Need-returns-9 (claims t) (image-at t) image.Post
+  returns-9 c =
+      let first = c .before in
+      let tested = first .before .before in
+      let k = tested .before .before in
+      let forth = sym (tested .is-back .ensures) ∙ first .before .if3 .left in
+      rw (is-then (known k) (tested .before .match .keys6) .1)
+      (walk-then (tree k) _ _ (start k .args .course) forth (first .image3 .ensures) (c .image4 .ensures))
 
   -- left or right
   pub image-requires-5 : lts.Need-image-requires-5 (claims t) (image-at t) image.Post
@@ -192,13 +215,13 @@ module _ (t : ℕ) where
   pub union-requires : lts.Need-union-requires (claims t) (image-at t) image.Post
   union-requires c κs = search needs
 
-  pub returns-9 : lts.Need-returns-9 (claims t) (image-at t) image.Post
-  returns-9 c =
+  pub returns-10 : lts.Need-returns-10 (claims t) (image-at t) image.Post
+  returns-10 c =
       let other = c .before in
       let one = other .before in
       let k = one .before .before in
       rw (is-either (known k) (one .before .match .keys7) .1)
-      (walk-either (tree k) _ _ (start k .args .back) (one .image5 .ensures) (other .image6 .ensures) (c .union .ensures))
+      (walk-either (tree k) _ _ (start k .args .course) (one .image5 .ensures) (other .image6 .ensures) (c .union .ensures))
 
   -- zero or more times
   pub star-requires : lts.Need-star-requires (claims t) (image-at t) image.Post
@@ -206,18 +229,18 @@ module _ (t : ℕ) where
       let k = c .before in
       operand (known k) (is-star (known k) (c .match .keys8) .0) (known k .asked .nodes-only) (measured k)
 
-  pub returns-10 : lts.Need-returns-10 (claims t) (image-at t) image.Post
-  returns-10 c =
-      let k = c .before .before in
-      rw (is-star (known k) (c .before .match .keys8) .1) (walk-star (tree k) (start k .args .back) _ (c .star .ensures))
-
-  -- self is the one path that is left
   pub returns-11 : lts.Need-returns-11 (claims t) (image-at t) image.Post
   returns-11 c =
+      let k = c .before .before in
+      rw (is-star (known k) (c .before .match .keys8) .1) (walk-star (tree k) (start k .args .course) _ (c .star .ensures))
+
+  -- self is the one path that is left
+  pub returns-12 : lts.Need-returns-12 (claims t) (image-at t) image.Post
+  returns-12 c =
       let k = c .before in
       let numbers = rw (← k .entry-at .ensures .kind) at (path-kind (entries (now (start k .args .table))) (start k .args .e) (known k .asked .sort)) in
       let left = c .match .rest in
       let to-five = down 6 (down 7 (down 8 (down 9 (numbers .1) (left .1)) (left .0 .1)) (left .0 .0 .1)) (left .0 .0 .0 .1) in
       let to-one = down 2 (down 3 (down 4 (down 5 to-five (left .0 .0 .0 .0 .1)) (left .0 .0 .0 .0 .0 .1)) (left .0 .0 .0 .0 .0 .0 .1)) (left .0 .0 .0 .0 .0 .0 .0 .1) in
       let is = le-antisymm to-one (numbers .0) in
-      rw (is-self (known k) is) (walk-self (tree k) (start k .args .back))
+      rw (is-self (known k) is) (walk-self (tree k) (start k .args .course))

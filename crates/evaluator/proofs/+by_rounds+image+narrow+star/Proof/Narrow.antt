@@ -9,15 +9,14 @@ use lib.ListN.{length}
 use lib.Dec.{T}
 use Rattle.tree.specs.Tree.{Tree}
 use Rattle.roll.specs.Roll.{nodes}
-use Rattle.roll.proofs.Deciding.{roll-in-order, roll-most}
+use Rattle.roll.proofs.Deciding.{roll-in-order}
 use Rattle.query.specs.Syntax.{Path}
 use Rattle.query.specs.Kind.{filter}
 use Rattle.query.specs.Meaning.{reach, holds}
 use Rattle.query.specs.Table.{entries, pathAt}
 use Rattle.query.proofs.Standing.{filter-kind}
-use Rattle.query.proofs.Turn.{turn-right}
-use Rattle.sets.specs.Sets.{Inside}
-use Rattle.evaluator.proofs.Images.{Stays, narrowed-inside}
+use Rattle.query.proofs.Turn.{turn-right, free-reaches}
+use Rattle.evaluator.proofs.Images.{Stays, image-inside, narrowed-inside}
 use Rattle.evaluator.proofs.Filters.{narrow-empty, narrow-always, narrow-never, narrow-leads, narrow-not, narrow-and, narrow-or}
 use Rattle.evaluator.proofs.Operands.{Known, operand-below, is-labelled, is-leads, is-always, is-never, is-not, is-and, is-or}
 use Rattle.evaluator.proofs.Walks.{walk-stays}
@@ -29,15 +28,13 @@ use Rattle.sets.proofs.is_empty.Reads as is-empty
 use Rattle.sets.proofs.union.Reads as union
 use Rattle.sets.proofs.common.Reads as common
 use Rattle.sets.proofs.difference.Reads as difference
-use Rattle.sets.proofs.below.Reads as below
 use Rattle.sets.proofs.empty.Reads as empty
 use Rattle.steps.proofs.labelled.Reads as labelled
-use Rattle.roll.proofs.count.Reads as count
 use Rattle.tables.proofs.entry.entry_at.Reads as entry-at
 
 -- what its callees ask and say
 abbrev pub claims : ℕ → lts.Claims
-claims t = (is-empty.Asked, is-empty.Learnt, entry-at.Asked, entry-at.Learnt, labelled.Asked, labelled.Learnt, count.Asked, count.Learnt, below.Asked, below.Learnt, image-below t, image.Post, common.Asked, common.Learnt, narrow-below t, narrow.Post, difference.Asked, difference.Learnt, union.Asked, union.Learnt, empty.Asked, empty.Learnt)
+claims t = (is-empty.Asked, is-empty.Learnt, entry-at.Asked, entry-at.Learnt, labelled.Asked, labelled.Learnt, image-below t, image.Post, common.Asked, common.Learnt, narrow-below t, narrow.Post, difference.Asked, difference.Learnt, union.Asked, union.Learnt, empty.Asked, empty.Learnt)
 
 module _ (t : ℕ) where
   pub is-empty-requires : lts.Need-is-empty-requires (claims t) (narrow-at t) narrow.Post
@@ -77,19 +74,16 @@ module _ (t : ℕ) where
       rw (is-labelled (known k) (c .before .match .keys1)) (c .labelled .ensures)
 
   -- left leads somewhere
-  pub count-requires : lts.Need-count-requires (claims t) (narrow-at t) narrow.Post
-  count-requires c κs = search needs
-
-  pub below-requires : lts.Need-below-requires (claims t) (narrow-at t) narrow.Post
-  below-requires c κs =
-      let k = c .before .before in
-      omega (arith, c .count .ensures, roll-most (known k .grounds .roll-right))
-
   pub image-requires : lts.Need-image-requires (claims t) (narrow-at t) narrow.Post
   image-requires c κs =
-      let k = c .before .before .before in
-      let inside : Inside (length (tree k)) (c .below .result) = λ i x. rw (c .before .count .ensures) at (c .below .ensures .exact i .0 x) in
-      operand-below (known k) (is-leads (known k) (c .before .before .match .keys2) .0) inside (measured k)
+      let k = c .before in
+      operand-below (known k) (is-leads (known k) (c .match .keys2) .0) (known k .asked .nodes-only) (measured k)
+
+  pub image-requires-2 : lts.Need-image-requires-2 (claims t) (narrow-at t) narrow.Post
+  image-requires-2 c κs =
+      let k = c .before .before in
+      let inside = image-inside (stays k _) (known k .asked .nodes-only) (c .image .ensures) in
+      operand-below (known k) (is-leads (known k) (c .before .match .keys2) .0) inside (measured k)
 
   pub common-requires : lts.Need-common-requires (claims t) (narrow-at t) narrow.Post
   common-requires c κs = search needs
@@ -97,12 +91,12 @@ module _ (t : ℕ) where
   pub returns-3 : lts.Need-returns-3 (claims t) (narrow-at t) narrow.Post
   unfolding holds
   returns-3 c =
-      let ends = c .before in
-      let all = ends .before in
-      let k = all .before .before .before in
+      let starts = c .before in
+      let ends = starts .before in
+      let k = ends .before .before in
       let p = pathAt (entries (now (start k .args .table))) (k .entry-at .result .left) in
-      rw (is-leads (known k) (all .before .before .match .keys2) .1)
-      (narrow-leads (turn-right (tree k) p) (stays k p) (known k .asked .nodes-only) (rw (all .before .count .ensures) at (all .below .ensures)) (ends .image .ensures) (c .common .ensures))
+      rw (is-leads (known k) (ends .before .match .keys2) .1)
+      (narrow-leads (free-reaches (tree k) p) (turn-right (tree k) p) (ends .image .ensures) (starts .image2 .ensures) (c .common .ensures))
 
   -- true
   pub returns-4 : lts.Need-returns-4 (claims t) (narrow-at t) narrow.Post

@@ -8,14 +8,13 @@ use Rattle.tree.specs.Tree.{Tree}
 use Rattle.roll.specs.Roll.{nodes}
 use Rattle.query.specs.Kind.{path}
 use Rattle.query.specs.Meaning.{reach}
-use Rattle.evaluator.specs.Evaluator.{facing}
 use Rattle.evaluator.proofs.Images.{image-star}
 use Rattle.evaluator.proofs.Operands.{Known, is-child, is-parent, is-next, is-previous}
 use Rattle.evaluator.proofs.+by_rounds+image+narrow+star.Proof.Measures.{star-at, by-rounds-below}
 use Rattle.evaluator.proofs.+by_rounds+image+narrow+star.Lts-star as lts
 use Rattle.evaluator.proofs.star.Reads as star
 use Rattle.evaluator.proofs.by_rounds.Reads as by-rounds
-use Rattle.evaluator.proofs.way.Reads as way
+use Rattle.evaluator.proofs.course.way.Reads as way
 use Rattle.steps.proofs.sweep.Reads as sweep
 use Rattle.tables.proofs.entry.entry_at.Reads as entry-at
 

@@ -1,0 +1,32 @@
+-- The courses on which a path is walked, each as a path that is walked forwards.
+use mathlib.Core.Bool.{Bool, true, false}
+use Rattle.query.specs.Syntax as syntax
+use Rattle.query.specs.Syntax.{Path}
+use Rattle.query.specs.Turn.{turn, free}
+use Rattle.steps.specs.declared.axis.Axis.{Axis}
+use Rattle.steps.specs.declared.axis.Axis.the-variants.{Child, Parent, Next, Previous}
+use Rattle.evaluator.specs.declared.course.Course.{Course}
+use Rattle.evaluator.specs.declared.course.Course.the-variants.{Forwards, Backwards, Freely}
+
+-- the path as it is, turned round, or with every filter taken to hold
+abbrev pub facing : Course → Path → Path
+facing Forwards p = p
+facing Backwards p = turn p
+facing Freely p = free p
+
+abbrev pub backwards : Course → Bool
+backwards Forwards = false
+backwards Backwards = true
+backwards Freely = false
+
+abbrev pub freely : Course → Bool
+freely Forwards = false
+freely Backwards = false
+freely Freely = true
+
+-- the path that is one step along an axis
+abbrev pub pathOf : Axis → Path
+pathOf Child = syntax.child
+pathOf Parent = syntax.parent
+pathOf Next = syntax.next
+pathOf Previous = syntax.previous

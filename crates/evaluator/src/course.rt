@@ -1,0 +1,44 @@
+// The three courses on which a path is walked.
+use steps::Axis;
+use steps::turned;
+ghost use mathlib.Core.Path.{_≡_};
+ghost use mathlib.Core.Logic.{_↔_};
+ghost use Prim.Native.Nat.{ℕ};
+ghost use Rattle.tree.specs.Tree.{Tree};
+ghost use Rattle.query.specs.Meaning.{reach};
+ghost use Rattle.steps.specs.Axis.{Along};
+ghost use Rattle.evaluator.specs.Course.{facing, pathOf, backwards, freely};
+
+// Forwards; backwards, with the axes turned round and the steps in the other order; or forwards with every filter taken to hold.
+pub enum Course {
+    Forwards,
+    Backwards,
+    Freely,
+}
+
+pub(crate) fn is_back(course: Course) -> bool
+    ensures { λ r. ⌜ r ≡ backwards course ⌝ }
+{
+    match course {
+        Course::Forwards => false,
+        Course::Backwards => true,
+        Course::Freely => false,
+    }
+}
+
+pub(crate) fn is_free(course: Course) -> bool
+    ensures { λ r. ⌜ r ≡ freely course ⌝ }
+{
+    match course {
+        Course::Forwards => false,
+        Course::Backwards => false,
+        Course::Freely => true,
+    }
+}
+
+// The axis of a step, or the axis turned round.
+pub(crate) fn way(axis: Axis, course: Course) -> Axis
+    ensures { λ r. ⌜ ((t : Tree) (i j : ℕ) → Along t r i j ↔ reach t (facing course (pathOf axis)) i j) ⌝ }
+{
+    if is_back(course) { turned(axis) } else { axis }
+}
