@@ -1,5 +1,5 @@
 -- What is known once an entry is read: what it stands for, by its kind, and that its operands can be asked in their turn. Assumes nothing.
-use Prim.Native.Nat.{ℕ, _+_, _*_, _-_, _≤_, _<_}
+use Prim.Native.Nat.{ℕ, _+_, _*_, _≤_, _<_}
 use native.Mathlib.Omega.{arith}
 use mathlib.Core.Path.{_≡_, refl}
 use mathlib.Core.List.{List}
@@ -14,15 +14,17 @@ use Rattle.query.proofs.Standing as standing
 use Rattle.sets.specs.Sets.{Inside}
 use Rattle.tables.specs.Fields.{Fields}
 use Rattle.tables.specs.declared.entry.Entry.{Entry}
+use Rattle.steps.specs.declared.axis.Axis.{Axis}
+use Rattle.evaluator.specs.Course.{pathOf, OfKind}
 use Rattle.evaluator.specs.Evaluator.{Grounds, Asked}
 
 -- the entry that a struct holds
 abbrev entryOf : Entry → table.Entry
 entryOf read = record { kind = read .kind; label = read .label; left = read .left; right = read .right }
 
--- a number of a range that is not its end
-pub down : (k : ℕ) {n : ℕ} → n ≤ k → (n ≡ k → ⊥) → n ≤ k - 1
-down k l h = omega arith
+-- a path's number that is none of those from 6 on is below them
+pub none-behind : {n : ℕ} → n ≤ 9 → ¬ (n ≡ 6) → ¬ (n ≡ 7) → ¬ (n ≡ 8) → ¬ (n ≡ 9) → n < 6
+none-behind l a b c d = omega arith
 
 -- What a function was given, and the entry that it has read.
 pub record Known (roll tab : Bytes) (next previous : List ℕ) (s : Sort) (e : ℕ) (from : List ℕ) (read : Entry) : Type 0 where
@@ -54,21 +56,12 @@ module _ {roll tab : Bytes} {next previous : List ℕ} {s : Sort} {e : ℕ} {fro
   unfolding kinds find build thePath
   is-self is = standing.path-stands (entries tab) e (k .asked .within) (entryOf read) same-entry 1 _ refl is
 
-  pub is-child : read .kind ≡ 2 → pathAt (entries tab) e ≡ syntax.child
+  pub is-axis : {axis : Axis} → OfKind (read .kind) axis → pathAt (entries tab) e ≡ pathOf axis
   unfolding kinds find build thePath
-  is-child is = standing.path-stands (entries tab) e (k .asked .within) (entryOf read) same-entry 2 _ refl is
-
-  pub is-parent : read .kind ≡ 3 → pathAt (entries tab) e ≡ syntax.parent
-  unfolding kinds find build thePath
-  is-parent is = standing.path-stands (entries tab) e (k .asked .within) (entryOf read) same-entry 3 _ refl is
-
-  pub is-next : read .kind ≡ 4 → pathAt (entries tab) e ≡ syntax.next
-  unfolding kinds find build thePath
-  is-next is = standing.path-stands (entries tab) e (k .asked .within) (entryOf read) same-entry 4 _ refl is
-
-  pub is-previous : read .kind ≡ 5 → pathAt (entries tab) e ≡ syntax.previous
-  unfolding kinds find build thePath
-  is-previous is = standing.path-stands (entries tab) e (k .asked .within) (entryOf read) same-entry 5 _ refl is
+  is-axis (OfKind.child is) = standing.path-stands (entries tab) e (k .asked .within) (entryOf read) same-entry 2 _ refl is
+  is-axis (OfKind.parent is) = standing.path-stands (entries tab) e (k .asked .within) (entryOf read) same-entry 3 _ refl is
+  is-axis (OfKind.next is) = standing.path-stands (entries tab) e (k .asked .within) (entryOf read) same-entry 4 _ refl is
+  is-axis (OfKind.previous is) = standing.path-stands (entries tab) e (k .asked .within) (entryOf read) same-entry 5 _ refl is
 
   -- both operands are earlier entries of the sort
   abbrev pub Both : Sort → Type 0

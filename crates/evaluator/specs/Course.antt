@@ -1,4 +1,6 @@
 -- The courses on which a path is walked, each as a path that is walked forwards.
+use Prim.Native.Nat.{ℕ}
+use mathlib.Core.Path.{_≡_}
 use mathlib.Core.Bool.{Bool, true, false}
 use Rattle.query.specs.Syntax as syntax
 use Rattle.query.specs.Syntax.{Path}
@@ -30,3 +32,10 @@ pathOf Child = syntax.child
 pathOf Parent = syntax.parent
 pathOf Next = syntax.next
 pathOf Previous = syntax.previous
+
+-- the axis of a kind: "2 child", "3 parent", "4 next sibling", "5 previous sibling"
+pub data OfKind : ℕ → Axis → Type 0 where
+  child : {kind : ℕ} → kind ≡ 2 → OfKind kind Child
+  parent : {kind : ℕ} → kind ≡ 3 → OfKind kind Parent
+  next : {kind : ℕ} → kind ≡ 4 → OfKind kind Next
+  previous : {kind : ℕ} → kind ≡ 5 → OfKind kind Previous

@@ -3,11 +3,11 @@ use steps::Axis;
 use steps::turned;
 ghost use mathlib.Core.Path.{_≡_};
 ghost use mathlib.Core.Logic.{_↔_};
-ghost use Prim.Native.Nat.{ℕ};
+ghost use Prim.Native.Nat.{ℕ, _≤_};
 ghost use Rattle.tree.specs.Tree.{Tree};
 ghost use Rattle.query.specs.Meaning.{reach};
 ghost use Rattle.steps.specs.Axis.{Along};
-ghost use Rattle.evaluator.specs.Course.{facing, pathOf, backwards, freely};
+ghost use Rattle.evaluator.specs.Course.{facing, pathOf, backwards, freely, OfKind};
 
 // Forwards; backwards, with the axes turned round and the steps in the other order; or forwards with every filter taken to hold.
 pub enum Course {
@@ -33,6 +33,19 @@ pub(crate) fn is_free(course: Course) -> bool
         Course::Forwards => false,
         Course::Backwards => false,
         Course::Freely => true,
+    }
+}
+
+// The axis of a kind: 2 child, 3 parent, 4 next sibling, 5 previous sibling.
+pub(crate) fn axis_of(kind: usize) -> Axis
+    requires { ⌜ (2 ≤ kind) × (kind ≤ 5) ⌝ }
+    ensures { λ r. ⌜ OfKind kind r ⌝ }
+{
+    match kind {
+        2 => Axis::Child,
+        3 => Axis::Parent,
+        4 => Axis::Next,
+        _ => Axis::Previous,
     }
 }
 

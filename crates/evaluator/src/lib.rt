@@ -3,6 +3,7 @@
 mod course;
 
 pub use course::Course;
+use course::axis_of;
 use course::is_back;
 use course::is_free;
 use course::way;
@@ -11,7 +12,6 @@ use sets::difference;
 use sets::empty;
 use sets::is_empty;
 use sets::union;
-use steps::Axis;
 use steps::labelled;
 use steps::step;
 use steps::sweep;
@@ -46,10 +46,7 @@ pub fn image(
     let left = entry.left;
     let right = entry.right;
     match kind {
-        2 => step(roll, next, previous, way(Axis::Child, course), from),
-        3 => step(roll, next, previous, way(Axis::Parent, course), from),
-        4 => step(roll, next, previous, way(Axis::Next, course), from),
-        5 => step(roll, next, previous, way(Axis::Previous, course), from),
+        2 | 3 | 4 | 5 => step(roll, next, previous, way(axis_of(kind), course), from),
         6 => {
             if is_free(course) {
                 from
@@ -91,10 +88,7 @@ fn star(
 {
     let kind = entry_at(table, e).kind;
     match kind {
-        2 => sweep(roll, next, previous, way(Axis::Child, course), from),
-        3 => sweep(roll, next, previous, way(Axis::Parent, course), from),
-        4 => sweep(roll, next, previous, way(Axis::Next, course), from),
-        5 => sweep(roll, next, previous, way(Axis::Previous, course), from),
+        2 | 3 | 4 | 5 => sweep(roll, next, previous, way(axis_of(kind), course), from),
         _ => by_rounds(roll, next, previous, table, e, course, from),
     }
 }

@@ -1,7 +1,8 @@
 -- `image` meets its contract, as a member of the cycle of calls: an arm for each kind of path, whose operands are asked in their turn.
 -- Assumes nothing.
-use Prim.Native.Nat.{ℕ, _*_, _<_}
-use native.Mathlib.Nat.{le-antisymm}
+use Prim.Native.Nat.{ℕ, _*_, _≤_, _<_}
+use native.Mathlib.Nat.{lt-irrefl, lt-of-lt-of-le}
+use native.Mathlib.Omega.{arith}
 use mathlib.Core.Path.{_≡_, sym, subst, _∙_}
 use mathlib.Core.List.{List}
 use borrow.Author.Needs.{needs}
@@ -19,7 +20,7 @@ use Rattle.query.proofs.Standing.{path-kind}
 use Rattle.sets.specs.Sets.{Image, Inside}
 use Rattle.evaluator.specs.Evaluator.{Grounds, Asked}
 use Rattle.evaluator.proofs.Images.{Stays, image-empty, image-inside, image-same}
-use Rattle.evaluator.proofs.Operands.{Known, down, operand, operand-below, is-self, is-child, is-parent, is-next, is-previous, is-stay, is-then, is-either, is-star}
+use Rattle.evaluator.proofs.Operands.{Known, none-behind, operand, operand-below, is-self, is-axis, is-stay, is-then, is-either, is-star}
 use Rattle.evaluator.proofs.Walks.{walk-stays, walk-self, walk-free, walk-stay, walk-then, walk-then-back, walk-either, walk-star}
 use Rattle.evaluator.proofs.+by_rounds+image+narrow+star.Proof.Measures.{image-at, image-below, narrow-below, star-below}
 use Rattle.evaluator.proofs.+by_rounds+image+narrow+star.Lts-image as lts
@@ -30,6 +31,7 @@ use Rattle.sets.proofs.is_empty.Reads as is-empty
 use Rattle.sets.proofs.union.Reads as union
 use Rattle.sets.proofs.empty.Reads as empty
 use Rattle.tables.proofs.entry.entry_at.Reads as entry-at
+use Rattle.evaluator.proofs.course.axis_of.Reads as axis-of
 use Rattle.evaluator.proofs.course.way.Reads as way
 use Rattle.evaluator.proofs.course.is_back.Reads as is-back
 use Rattle.evaluator.proofs.course.is_free.Reads as is-free
@@ -37,7 +39,7 @@ use Rattle.steps.proofs.step.Reads as step
 
 -- what its callees ask and say
 abbrev pub claims : ℕ → lts.Claims
-claims t = (is-empty.Asked, is-empty.Learnt, entry-at.Asked, entry-at.Learnt, way.Asked, way.Learnt, step.Asked, step.Learnt, is-free.Asked, is-free.Learnt, narrow-below t, narrow.Post, is-back.Asked, is-back.Learnt, image-below t, image.Post, union.Asked, union.Learnt, star-below t, star.Post)
+claims t = (is-empty.Asked, is-empty.Learnt, entry-at.Asked, entry-at.Learnt, is-free.Asked, is-free.Learnt, narrow-below t, narrow.Post, is-back.Asked, is-back.Learnt, image-below t, image.Post, union.Asked, union.Learnt, star-below t, star.Post, axis-of.Asked, axis-of.Learnt, way.Asked, way.Learnt, step.Asked, step.Learnt)
 
 module _ (t : ℕ) where
   pub is-empty-requires : lts.Need-is-empty-requires (claims t) (image-at t) image.Post
@@ -72,76 +74,44 @@ module _ (t : ℕ) where
     stays : (p : Path) → Stays (length tree) (reach tree p)
     stays p = walk-stays tree (roll-in-order (known .grounds .roll-right)) p
 
-  -- one step along each axis
+  -- one step along an axis
+  pub axis-of-requires : lts.Need-axis-of-requires (claims t) (image-at t) image.Post
+  axis-of-requires c κs = search needs
+
   pub way-requires : lts.Need-way-requires (claims t) (image-at t) image.Post
   way-requires c κs = search needs
 
   pub step-requires : lts.Need-step-requires (claims t) (image-at t) image.Post
-  step-requires c κs = let g = known (c .before .before) .grounds in (g .roll-right, g .links)
+  step-requires c κs = let g = known (c .before .before .before .before .before) .grounds in (g .roll-right, g .links)
 
-  pub returns-2 : lts.Need-returns-2 (claims t) (image-at t) image.Post
-  returns-2 c =
+  pub returns-8 : lts.Need-returns-8 (claims t) (image-at t) image.Post
+  returns-8 c =
       let turned = c .before in
-      let k = turned .before .before in
-      rw (is-child (known k) (turned .before .match .keys1)) (image-same (turned .way .ensures (tree k)) (c .step .ensures))
-
-  pub way-requires-2 : lts.Need-way-requires-2 (claims t) (image-at t) image.Post
-  way-requires-2 c κs = search needs
-
-  pub step-requires-2 : lts.Need-step-requires-2 (claims t) (image-at t) image.Post
-  step-requires-2 c κs = let g = known (c .before .before) .grounds in (g .roll-right, g .links)
-
-  pub returns-3 : lts.Need-returns-3 (claims t) (image-at t) image.Post
-  returns-3 c =
-      let turned = c .before in
-      let k = turned .before .before in
-      rw (is-parent (known k) (turned .before .match .keys2)) (image-same (turned .way2 .ensures (tree k)) (c .step2 .ensures))
-
-  pub way-requires-3 : lts.Need-way-requires-3 (claims t) (image-at t) image.Post
-  way-requires-3 c κs = search needs
-
-  pub step-requires-3 : lts.Need-step-requires-3 (claims t) (image-at t) image.Post
-  step-requires-3 c κs = let g = known (c .before .before) .grounds in (g .roll-right, g .links)
-
-  pub returns-4 : lts.Need-returns-4 (claims t) (image-at t) image.Post
-  returns-4 c =
-      let turned = c .before in
-      let k = turned .before .before in
-      rw (is-next (known k) (turned .before .match .keys3)) (image-same (turned .way3 .ensures (tree k)) (c .step3 .ensures))
-
-  pub way-requires-4 : lts.Need-way-requires-4 (claims t) (image-at t) image.Post
-  way-requires-4 c κs = search needs
-
-  pub step-requires-4 : lts.Need-step-requires-4 (claims t) (image-at t) image.Post
-  step-requires-4 c κs = let g = known (c .before .before) .grounds in (g .roll-right, g .links)
-
-  pub returns-5 : lts.Need-returns-5 (claims t) (image-at t) image.Post
-  returns-5 c =
-      let turned = c .before in
-      let k = turned .before .before in
-      rw (is-previous (known k) (turned .before .match .keys4)) (image-same (turned .way4 .ensures (tree k)) (c .step4 .ensures))
+      let found = turned .before in
+      let k = found .before .before .before .before in
+      rw (is-axis (known k) (found .axis-of .ensures)) (image-same (turned .way .ensures (tree k)) (c .step .ensures))
 
   -- stay if the filter holds, or where it is taken to hold
   pub is-free-requires : lts.Need-is-free-requires (claims t) (image-at t) image.Post
   is-free-requires c κs = search needs
 
-  pub returns-6 : lts.Need-returns-6 (claims t) (image-at t) image.Post
-  returns-6 c =
+  pub returns-2 : lts.Need-returns-2 (claims t) (image-at t) image.Post
+  returns-2 c =
       let tested = c .before in
       let k = tested .before .before in
-      rw (is-stay (known k) (tested .before .match .keys5) .1)
+      rw (is-stay (known k) (tested .before .match .keys1) .1)
       (walk-free (tree k) (start k .args .course) _ (sym (tested .is-free .ensures) ∙ c .if2 .taken))
 
   pub narrow-requires : lts.Need-narrow-requires (claims t) (image-at t) image.Post
   narrow-requires c κs =
       let k = c .before .before .before in
-      operand-below (known k) (is-stay (known k) (c .before .before .match .keys5) .0) (known k .asked .nodes-only) (measured k)
+      operand-below (known k) (is-stay (known k) (c .before .before .match .keys1) .0) (known k .asked .nodes-only) (measured k)
 
-  pub returns-7 : lts.Need-returns-7 (claims t) (image-at t) image.Post
-  returns-7 c =
+  pub returns-3 : lts.Need-returns-3 (claims t) (image-at t) image.Post
+  returns-3 c =
       let tested = c .before .before in
       let k = tested .before .before in
-      rw (is-stay (known k) (tested .before .match .keys5) .1)
+      rw (is-stay (known k) (tested .before .match .keys1) .1)
       (walk-stay (tree k) (start k .args .course) _ (sym (tested .is-free .ensures) ∙ c .before .if2 .left) (c .narrow .ensures))
 
   -- left, then right: both operands can be asked of a set of nodes
@@ -159,88 +129,93 @@ module _ (t : ℕ) where
   pub image-requires : lts.Need-image-requires (claims t) (image-at t) image.Post
   image-requires c κs =
       let m = c .before .before in
-      let (left, right) = operands (m .before) (m .match .keys6) (known (m .before) .asked .nodes-only) in
+      let (left, right) = operands (m .before) (m .match .keys2) (known (m .before) .asked .nodes-only) in
       search (left, right)
 
   pub image-requires-2 : lts.Need-image-requires-2 (claims t) (image-at t) image.Post
   image-requires-2 c κs =
       let m = c .before .before .before in
       let inside = image-inside (stays (m .before) _) (known (m .before) .asked .nodes-only) (c .image .ensures) in
-      let (left, right) = operands (m .before) (m .match .keys6) inside in
+      let (left, right) = operands (m .before) (m .match .keys2) inside in
       search (left, right)
 
-  pub returns-8 : lts.Need-returns-8 (claims t) (image-at t) image.Post
-  returns-8 c =
+  pub returns-4 : lts.Need-returns-4 (claims t) (image-at t) image.Post
+  returns-4 c =
       let first = c .before in
       let tested = first .before .before in
       let k = tested .before .before in
       let back = sym (tested .is-back .ensures) ∙ first .before .if3 .taken in
-      rw (is-then (known k) (tested .before .match .keys6) .1)
+      rw (is-then (known k) (tested .before .match .keys2) .1)
       (walk-then-back (tree k) _ _ (start k .args .course) back (first .image .ensures) (c .image2 .ensures))
 
   -- and forwards the left one
   pub image-requires-3 : lts.Need-image-requires-3 (claims t) (image-at t) image.Post
   image-requires-3 c κs =
       let m = c .before .before in
-      let (left, right) = operands (m .before) (m .match .keys6) (known (m .before) .asked .nodes-only) in
+      let (left, right) = operands (m .before) (m .match .keys2) (known (m .before) .asked .nodes-only) in
       search (left, right)
 
   pub image-requires-4 : lts.Need-image-requires-4 (claims t) (image-at t) image.Post
   image-requires-4 c κs =
       let m = c .before .before .before in
       let inside = image-inside (stays (m .before) _) (known (m .before) .asked .nodes-only) (c .image3 .ensures) in
-      let (left, right) = operands (m .before) (m .match .keys6) inside in
+      let (left, right) = operands (m .before) (m .match .keys2) inside in
       search (left, right)
 
-  pub returns-9 : lts.Need-returns-9 (claims t) (image-at t) image.Post
-  returns-9 c =
+  pub returns-5 : lts.Need-returns-5 (claims t) (image-at t) image.Post
+  returns-5 c =
       let first = c .before in
       let tested = first .before .before in
       let k = tested .before .before in
       let forth = sym (tested .is-back .ensures) ∙ first .before .if3 .left in
-      rw (is-then (known k) (tested .before .match .keys6) .1)
+      rw (is-then (known k) (tested .before .match .keys2) .1)
       (walk-then (tree k) _ _ (start k .args .course) forth (first .image3 .ensures) (c .image4 .ensures))
 
   -- left or right
   pub image-requires-5 : lts.Need-image-requires-5 (claims t) (image-at t) image.Post
   image-requires-5 c κs =
       let k = c .before in
-      operand-below (known k) (is-either (known k) (c .match .keys7) .0 .0) (known k .asked .nodes-only) (measured k)
+      operand-below (known k) (is-either (known k) (c .match .keys3) .0 .0) (known k .asked .nodes-only) (measured k)
 
   pub image-requires-6 : lts.Need-image-requires-6 (claims t) (image-at t) image.Post
   image-requires-6 c κs =
       let k = c .before .before in
-      operand-below (known k) (is-either (known k) (c .before .match .keys7) .0 .1) (known k .asked .nodes-only) (measured k)
+      operand-below (known k) (is-either (known k) (c .before .match .keys3) .0 .1) (known k .asked .nodes-only) (measured k)
 
   pub union-requires : lts.Need-union-requires (claims t) (image-at t) image.Post
   union-requires c κs = search needs
 
-  pub returns-10 : lts.Need-returns-10 (claims t) (image-at t) image.Post
-  returns-10 c =
+  pub returns-6 : lts.Need-returns-6 (claims t) (image-at t) image.Post
+  returns-6 c =
       let other = c .before in
       let one = other .before in
       let k = one .before .before in
-      rw (is-either (known k) (one .before .match .keys7) .1)
+      rw (is-either (known k) (one .before .match .keys3) .1)
       (walk-either (tree k) _ _ (start k .args .course) (one .image5 .ensures) (other .image6 .ensures) (c .union .ensures))
 
   -- zero or more times
   pub star-requires : lts.Need-star-requires (claims t) (image-at t) image.Post
   star-requires c κs =
       let k = c .before in
-      operand (known k) (is-star (known k) (c .match .keys8) .0) (known k .asked .nodes-only) (measured k)
+      operand (known k) (is-star (known k) (c .match .keys4) .0) (known k .asked .nodes-only) (measured k)
 
-  pub returns-11 : lts.Need-returns-11 (claims t) (image-at t) image.Post
-  returns-11 c =
+  pub returns-7 : lts.Need-returns-7 (claims t) (image-at t) image.Post
+  returns-7 c =
       let k = c .before .before in
-      rw (is-star (known k) (c .before .match .keys8) .1) (walk-star (tree k) (start k .args .course) _ (c .star .ensures))
+      rw (is-star (known k) (c .before .match .keys4) .1) (walk-star (tree k) (start k .args .course) _ (c .star .ensures))
 
-  -- self is the one path that is left
-  pub returns-12 : lts.Need-returns-12 (claims t) (image-at t) image.Post
-  returns-12 c =
-      let k = c .before in
-      let numbers = rw (← k .entry-at .ensures .kind) at (path-kind (entries (now (start k .args .table))) (start k .args .e) (known k .asked .sort)) in
-      let left = c .match .rest in
-      let to-five = down 6 (down 7 (down 8 (down 9 (numbers .1) (left .1)) (left .0 .1)) (left .0 .0 .1)) (left .0 .0 .0 .1) in
-      let to-one = down 2 (down 3 (down 4 (down 5 to-five (left .0 .0 .0 .0 .1)) (left .0 .0 .0 .0 .0 .1)) (left .0 .0 .0 .0 .0 .0 .1)) (left .0 .0 .0 .0 .0 .0 .0 .1) in
-      let is = le-antisymm to-one (numbers .0) in
-      rw (is-self (known k) is) (walk-self (tree k) (start k .args .course))
+  -- self is the one path that is left, and none is behind 9
+  numbers : (c : lts.After-entry-at (claims t) (image-at t) image.Post) → (1 ≤ c .entry-at .result .kind) × (c .entry-at .result .kind ≤ 9)
+  numbers c = rw (known c .fields .kind) (path-kind (entries (now (start c .args .table))) (start c .args .e) (known c .asked .sort))
+
+  pub returns-9 : lts.Need-returns-9 (claims t) (image-at t) image.Post
+  returns-9 c =
+      let k = c .before .before in
+      rw (is-self (known k) (omega (arith, numbers k))) (walk-self (tree k) (start k .args .course))
+
+  pub returns-10 : lts.Need-returns-10 (claims t) (image-at t) image.Post
+  returns-10 c =
+      let rest = c .before .before in
+      let left = rest .match .rest in
+      let low = none-behind (numbers (rest .before) .1) (left .0 .0 .0 .1) (left .0 .0 .1) (left .0 .1) (left .1) in
+      absurd (lt-irrefl _ (lt-of-lt-of-le low (c .if5 .left)))
