@@ -78,7 +78,7 @@ pub fn right_at(table: &[u8], i: usize) -> usize
 }
 
 // The number of the sort of entry i, 0 where its kind is not listed.
-pub fn sort_at(table: &[u8], i: usize) -> usize
+pub fn sort_at(table: &[u8], i: usize) -> u8
     ensures { λ r. ⌜ r ≡ sortOf (rowAt (entries (now (table .entry))) i) ⌝ }
 {
     sort_of(kind_at(table, i))

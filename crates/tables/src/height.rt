@@ -15,7 +15,7 @@ fn higher(left: usize, right: usize) -> usize
 }
 
 // The height of an operand among those of the entries before it, 0 where the field is unused.
-fn operand_height(heights: &[usize], sort: usize, number: usize) -> usize
+fn operand_height(heights: &[usize], sort: u8, number: usize) -> usize
     ensures { λ r. ⌜ OfOperand (λ o. r ≡ operandHeight (now (heights .entry)) o number) sort ⌝ }
 {
     if sort == NONE {

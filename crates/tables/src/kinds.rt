@@ -4,14 +4,14 @@ ghost use Rattle.query.specs.Kind.{rowOf};
 ghost use Rattle.tables.specs.Shape.{sortOf, leftOf, rightOf, labelOf, Shaped};
 
 // The numbers of the sorts. A field with no sort is unused, and a number with no sort is no kind's.
-pub const NONE: usize = 0;
+pub const NONE: u8 = 0;
 
-pub const PATH: usize = 1;
+pub const PATH: u8 = 1;
 
-pub const FILTER: usize = 2;
+pub const FILTER: u8 = 2;
 
 // A kind's sort, the sorts of its left and right operand, and whether it uses its label.
-struct Shape(usize, usize, usize, bool);
+struct Shape(u8, u8, u8, bool);
 
 const KINDS: [Shape; 23] = [
     Shape(NONE, NONE, NONE, false), // 0: no kind
@@ -50,19 +50,19 @@ fn shape_of(kind: usize) -> Shape
     }
 }
 
-pub fn sort_of(kind: usize) -> usize
+pub fn sort_of(kind: usize) -> u8
     ensures { λ r. ⌜ r ≡ sortOf (rowOf kind) ⌝ }
 {
     shape_of(kind).0
 }
 
-pub fn left_of(kind: usize) -> usize
+pub fn left_of(kind: usize) -> u8
     ensures { λ r. ⌜ r ≡ leftOf (rowOf kind) ⌝ }
 {
     shape_of(kind).1
 }
 
-pub fn right_of(kind: usize) -> usize
+pub fn right_of(kind: usize) -> u8
     ensures { λ r. ⌜ r ≡ rightOf (rowOf kind) ⌝ }
 {
     shape_of(kind).2

@@ -19,7 +19,7 @@ fn label_right(used: bool, label: usize) -> bool
 }
 
 // "Operands are numbers of earlier entries", and "unused fields are zero".
-fn operand_right(table: &[u8], i: usize, sort: usize, number: usize) -> bool
+fn operand_right(table: &[u8], i: usize, sort: u8, number: usize) -> bool
     ensures { λ r. ⌜ OfOperand (λ o. Decides r (OperandField (entries (now (table .entry))) i o number)) sort ⌝ }
 {
     if sort == NONE {
