@@ -44,7 +44,7 @@ fn entries(n: usize, height: usize) {
 }
 
 // A query under the limits of its table.
-fn check_entries(n: usize, height: usize, most: usize, highest: usize) -> Reply
+fn check_entries(n: usize, height: usize, most: usize, highest: u16) -> Reply
     requires { ⌜ n ≤ 1025 ⌝ }
     requires { ⌜ most ≤ 1024 ⌝ }
 {

@@ -1,18 +1,17 @@
--- The constant table over kind numbers says what the list of kinds says: one computed test of the whole table, and a law for the numbers behind it.
--- Assumes nothing.
-use Prim.Native.Nat.{ℕ, zero, suc, _+_, _≤_, _<_}
+-- The constant table over kind numbers says what the list of kinds says: it is computed from the list, no kind stands behind it, and each byte
+-- can be taken apart. Assumes nothing.
+use Prim.Native.Nat.{ℕ, zero, suc, _+_, _*_, _/_, _%_, _≤_, _<_}
 use native.Mathlib.Omega.{arith}
-use mathlib.Core.Path.{_≡_, refl, sym, ap, _∙_, subst}
+use mathlib.Core.Path.{_≡_, refl, sym, ap, _∙_}
 use mathlib.Core.List.{List, [], _∷_}
-use mathlib.Core.Option.{Option, none}
+use mathlib.Core.Option.{Option, none, some}
 use mathlib.Core.Bool.{Bool, true, false, _&&_}
-use lib.Dec.{T, ltb, ltb→lt}
+use lib.Dec.{T, leb, ltb, ltb→lt}
 use lib.ListN.{getD}
 use mir.Facts.{and-yes}
-use borrow.Author.Tests.{ne-eqb}
-use Rattle.query.specs.Kind.{Row, kinds, find, rowOf}
-use Rattle.tables.specs.declared.kinds.Shape.{Shape}
-use Rattle.tables.specs.Shape.{sortOf, leftOf, rightOf, labelOf, Shaped}
+use borrow.Author.Tests.{le-leb, lt-leb, ne-eqb}
+use Rattle.query.specs.Kind.{path, filter, Operand, unused, of, Row, kinds, find, rowOf}
+use Rattle.tables.specs.Shape.{operandNumber, sortOf, leftOf, rightOf, labelOf, labelNumber, rowByte, Shaped}
 
 -- the values of a function at n numbers from i on
 unfoldable pub valuesFrom : {A : Type 0} → (ℕ → A) → ℕ → ℕ → List A
@@ -26,25 +25,14 @@ values-at f d i zero k l = absurd (omega arith)
 values-at f d i (suc n) zero l = ap f (omega arith)
 values-at f d i (suc n) (suc k) l = values-at f d (suc i) n k (omega arith) ∙ ap f (omega arith)
 
--- the shape of a kind's row
-unfoldable pub shapeOf : ℕ → Shape
-shapeOf kind = (sortOf (rowOf kind), leftOf (rowOf kind), rightOf (rowOf kind), labelOf (rowOf kind))
+-- the byte of the row of a kind's number
+unfoldable pub byteOf : ℕ → ℕ
+byteOf kind = rowByte (rowOf kind)
 
--- an equation of shapes, field by field
-shaped : (kind : ℕ) (shape : Shape) → shape ≡ shapeOf kind → Shaped (rowOf kind) shape
-unfolding shapeOf
-shaped kind shape e =
-    record {
-      sort = ap (λ (s : Shape). s .0) e;
-      left = ap (λ (s : Shape). s .1) e;
-      right = ap (λ (s : Shape). s .2) e;
-      label = ap (λ (s : Shape). s .3) e;
-    }
-
--- a table that has the shape of every kind below 23 is right at each of them
-pub table-right : (shapes : List Shape) (d : Shape) → shapes ≡ valuesFrom shapeOf 0 23 → (kind : ℕ) → kind < 23 → Shaped (rowOf kind) (getD shapes kind d)
-table-right shapes d e kind l =
-    shaped kind (getD shapes kind d) (ap (λ (s : List Shape). getD s kind d) e ∙ values-at shapeOf d 0 23 kind l ∙ ap shapeOf (omega arith))
+-- the table of these bytes, which is what the code's constant table computes to, says what the list says
+pub table-right : (kind : ℕ) → kind < 23 → getD (valuesFrom byteOf 0 23) kind 0 ≡ rowByte (rowOf kind)
+unfolding byteOf
+table-right kind l = values-at byteOf 0 0 23 kind l ∙ ap byteOf (omega arith)
 
 -- every row has a number below n
 unfoldable numbersBelow : ℕ → List Row → Bool
@@ -61,8 +49,40 @@ find-beyond n k (row ∷ more) t l =
     rw (ne-eqb k (row .number) (λ e. omega arith), find) (find-beyond n k more (both .1) l)
 
 -- there is no kind behind 22
-pub no-kind : (kind : ℕ) → 23 ≤ kind → Shaped (rowOf kind) (0, 0, 0, false)
+pub no-kind : (kind : ℕ) → 23 ≤ kind → 0 ≡ rowByte (rowOf kind)
 unfolding kinds numbersBelow
-no-kind kind l =
-    subst (λ (row : Option Row). Shaped row (0, 0, 0, false)) (sym (find-beyond 23 kind kinds tt l))
-    (record { sort = refl; left = refl; right = refl; label = refl })
+no-kind kind l = ap rowByte (sym (find-beyond 23 kind kinds tt l))
+
+-- The number of a sort takes two bits, in each of its three places.
+operand-bits : (o : Operand) → operandNumber o < 4
+operand-bits unused = omega arith
+operand-bits (of path) = omega arith
+operand-bits (of filter) = omega arith
+
+sort-bits : (row : Option Row) → sortOf row < 4
+sort-bits none = omega arith
+sort-bits (some row) = operand-bits (of (row .sort))
+
+left-bits : (row : Option Row) → leftOf row < 4
+left-bits none = omega arith
+left-bits (some row) = operand-bits (row .left)
+
+right-bits : (row : Option Row) → rightOf row < 4
+right-bits none = omega arith
+right-bits (some row) = operand-bits (row .right)
+
+-- the label's bit stands above them
+label-bit : (used : Bool) (rest : ℕ) → rest < 64 → leb 64 (rest + 64 * labelNumber used) ≡ used
+label-bit false rest l = lt-leb 64 (rest + 64 * 0) (omega arith)
+label-bit true rest l = le-leb 64 (rest + 64 * 1) (omega arith)
+
+-- so the byte of a row, taken apart, says what the row says
+pub taken-apart : (row : Option Row)
+    → let byte : ℕ = rowByte row in
+    Shaped row (record { sort = byte % 4; left = byte / 4 % 4; right = byte / 16 % 4; label = leb 64 byte })
+taken-apart row =
+    let s = sort-bits row in
+    let l = left-bits row in
+    let r = right-bits row in
+    let sorts : ℕ = sortOf row + 4 * leftOf row + 16 * rightOf row in
+    record { sort = omega arith; left = omega arith; right = omega arith; label = label-bit (labelOf row) sorts (omega arith) }

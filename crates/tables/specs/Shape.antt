@@ -1,7 +1,7 @@
 -- What the constant table over kind numbers says of the list of kinds: sorts as numbers, 0 where there is none.
-use Prim.Native.Nat.{ℕ}
+use Prim.Native.Nat.{ℕ, _+_, _*_}
 use mathlib.Core.Path.{_≡_}
-use mathlib.Core.Bool.{Bool, false}
+use mathlib.Core.Bool.{Bool, true, false}
 use mathlib.Core.Option.{Option, none, some}
 use Rattle.query.specs.Kind.{Sort, path, filter, Operand, unused, of, Row}
 use Rattle.tables.specs.declared.kinds.Shape.{Shape}
@@ -37,7 +37,15 @@ labelOf (some row) = row .label
 
 -- the shape says of the row what the list says
 pub record Shaped (row : Option Row) (shape : Shape) : Type 0 where
-  pub sort : shape .0 ≡ sortOf row
-  pub left : shape .1 ≡ leftOf row
-  pub right : shape .2 ≡ rightOf row
-  pub label : shape .3 ≡ labelOf row
+  pub sort : shape .sort ≡ sortOf row
+  pub left : shape .left ≡ leftOf row
+  pub right : shape .right ≡ rightOf row
+  pub label : shape .label ≡ labelOf row
+
+-- The byte of a row: its sort, 4 times that of its left operand, 16 times that of its right one, and 64 where it uses its label.
+abbrev pub labelNumber : Bool → ℕ
+labelNumber false = 0
+labelNumber true = 1
+
+abbrev pub rowByte : Option Row → ℕ
+rowByte row = sortOf row + 4 * leftOf row + 16 * rightOf row + 64 * labelNumber (labelOf row)

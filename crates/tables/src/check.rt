@@ -20,13 +20,13 @@ use reply::Reason;
 use reply::Refusal;
 use reply::Reply;
 
-// "lowest entry, in it 8, 9". The heights of the entries before are kept.
-fn check_entries(table: &[u8], height: usize) -> Reply
+// "lowest entry, in it 8, 9". The heights of the entries before are kept, in two bytes each, since they are cleared for every table.
+fn check_entries(table: &[u8], height: u16) -> Reply
     requires { ⌜ length (entriesOf (now table)) ≤ 1024 ⌝ }
     ensures { λ r. ⌜ ((limit : Limits) → limit .height ≡ height → EntriesChecked limit (now (table .entry)) (said r)) ⌝ }
 {
     let n = count(table);
-    let mut heights = [0usize; ANSWER_ENTRIES];
+    let mut heights = [0u16; ANSWER_ENTRIES];
     let mut i = 0;
     while i < n {
         if !entry_right(table, i) {
@@ -58,7 +58,7 @@ pub fn whole(table: &[u8], entries: usize) -> bool
 }
 
 // "12 for length, lowest entry 8, 9, then 12 for the last entry"
-pub fn check_query(table: &[u8], entries: usize, height: usize) -> Reply
+pub fn check_query(table: &[u8], entries: usize, height: u16) -> Reply
     requires { ⌜ entries ≤ 1024 ⌝ }
     ensures { λ r. ⌜ QueryChecked (record { entries = entries; height = height }) (now (table .entry)) (said r) ⌝ }
 {

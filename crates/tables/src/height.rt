@@ -5,17 +5,16 @@ ghost use Rattle.query.specs.Table.{entries, entryAt, operandHeight, height};
 ghost use Rattle.tables.specs.Shape.{OfOperand};
 use crate::entry::entry_at;
 use crate::kinds::NONE;
-use crate::kinds::left_of;
-use crate::kinds::right_of;
+use crate::kinds::shape_of;
 
-fn higher(left: usize, right: usize) -> usize
+fn higher(left: u16, right: u16) -> u16
     ensures { λ r. ⌜ r ≡ max left right ⌝ }
 {
     if left < right { right } else { left }
 }
 
 // The height of an operand among those of the entries before it, 0 where the field is unused.
-fn operand_height(heights: &[usize], sort: u8, number: usize) -> usize
+fn operand_height(heights: &[u16], sort: u8, number: usize) -> u16
     ensures { λ r. ⌜ OfOperand (λ o. r ≡ operandHeight (now (heights .entry)) o number) sort ⌝ }
 {
     if sort == NONE {
@@ -28,12 +27,12 @@ fn operand_height(heights: &[usize], sort: u8, number: usize) -> usize
 }
 
 // The greatest height of the operands of entry i, which is one less than its own.
-pub fn height_below(heights: &[usize], table: &[u8], i: usize) -> usize
+pub fn height_below(heights: &[u16], table: &[u8], i: usize) -> u16
     ensures { λ r. ⌜ r + 1 ≡ height (now (heights .entry)) (entryAt (entries (now (table .entry))) i) ⌝ }
 {
     let entry = entry_at(table, i);
-    let kind = entry.kind;
-    let left = operand_height(heights, left_of(kind), entry.left);
-    let right = operand_height(heights, right_of(kind), entry.right);
+    let shape = shape_of(entry.kind);
+    let left = operand_height(heights, shape.left, entry.left);
+    let right = operand_height(heights, shape.right, entry.right);
     higher(left, right)
 }

@@ -1,7 +1,8 @@
-// "For each kind the list below says which operands it takes": the list as a constant table over kind numbers.
+// "For each kind the list below says which operands it takes": the list as a constant table over kind numbers. A row is one byte, since a
+// constant table is laid out anew at each look-up: a table of bytes is a few moves.
 ghost use mathlib.Core.Path.{_≡_};
 ghost use Rattle.query.specs.Kind.{rowOf};
-ghost use Rattle.tables.specs.Shape.{sortOf, leftOf, rightOf, labelOf, Shaped};
+ghost use Rattle.tables.specs.Shape.{sortOf, rowByte, Shaped};
 
 // The numbers of the sorts. A field with no sort is unused, and a number with no sort is no kind's.
 pub const NONE: u8 = 0;
@@ -10,66 +11,71 @@ pub const PATH: u8 = 1;
 
 pub const FILTER: u8 = 2;
 
-// A kind's sort, the sorts of its left and right operand, and whether it uses its label.
-struct Shape(u8, u8, u8, bool);
+// All of them are below this.
+const SORTS: u8 = 4;
 
-const KINDS: [Shape; 23] = [
-    Shape(NONE, NONE, NONE, false), // 0: no kind
-    Shape(PATH, NONE, NONE, false), // 1: self
-    Shape(PATH, NONE, NONE, false), // 2: child
-    Shape(PATH, NONE, NONE, false), // 3: parent
-    Shape(PATH, NONE, NONE, false), // 4: next sibling
-    Shape(PATH, NONE, NONE, false), // 5: previous sibling
-    Shape(PATH, FILTER, NONE, false), // 6: stay if the filter holds
-    Shape(PATH, PATH, PATH, false), // 7: left, then right
-    Shape(PATH, PATH, PATH, false), // 8: left or right
-    Shape(PATH, PATH, NONE, false), // 9: left, zero or more times
-    Shape(NONE, NONE, NONE, false), // 10 to 15: no kinds
-    Shape(NONE, NONE, NONE, false),
-    Shape(NONE, NONE, NONE, false),
-    Shape(NONE, NONE, NONE, false),
-    Shape(NONE, NONE, NONE, false),
-    Shape(NONE, NONE, NONE, false),
-    Shape(FILTER, NONE, NONE, true), // 16: label is the given one
-    Shape(FILTER, PATH, NONE, false), // 17: left leads somewhere
-    Shape(FILTER, NONE, NONE, false), // 18: true
-    Shape(FILTER, NONE, NONE, false), // 19: false
-    Shape(FILTER, FILTER, NONE, false), // 20: not
-    Shape(FILTER, FILTER, FILTER, false), // 21: and
-    Shape(FILTER, FILTER, FILTER, false), // 22: or
+// A row is a kind's sort, this many times the sort of its left operand and of its right one, and this where it uses its label.
+const LEFT: u8 = 4;
+
+const RIGHT: u8 = 16;
+
+const LABEL: u8 = 64;
+
+const KINDS: [u8; 23] = [
+    NONE, // 0: no kind
+    PATH, // 1: self
+    PATH, // 2: child
+    PATH, // 3: parent
+    PATH, // 4: next sibling
+    PATH, // 5: previous sibling
+    PATH + LEFT * FILTER, // 6: stay if the filter holds
+    PATH + LEFT * PATH + RIGHT * PATH, // 7: left, then right
+    PATH + LEFT * PATH + RIGHT * PATH, // 8: left or right
+    PATH + LEFT * PATH, // 9: left, zero or more times
+    NONE, // 10 to 15: no kinds
+    NONE,
+    NONE,
+    NONE,
+    NONE,
+    NONE,
+    FILTER + LABEL, // 16: label is the given one
+    FILTER + LEFT * PATH, // 17: left leads somewhere
+    FILTER, // 18: true
+    FILTER, // 19: false
+    FILTER + LEFT * FILTER, // 20: not
+    FILTER + LEFT * FILTER + RIGHT * FILTER, // 21: and
+    FILTER + LEFT * FILTER + RIGHT * FILTER, // 22: or
 ];
 
+// A kind's sort, the sorts of its left and right operand, and whether it uses its label.
+pub struct Shape {
+    pub sort: u8,
+    pub left: u8,
+    pub right: u8,
+    pub label: bool,
+}
+
 // The row of a kind's number.
-fn shape_of(kind: usize) -> Shape
+fn row_of(kind: usize) -> u8
+    ensures { λ r. ⌜ r ≡ rowByte (rowOf kind) ⌝ }
+{
+    if kind < 23 { KINDS[kind] } else { NONE }
+}
+
+pub fn shape_of(kind: usize) -> Shape
     ensures { λ r. ⌜ Shaped (rowOf kind) r ⌝ }
 {
-    if kind < 23 {
-        KINDS[kind]
-    } else {
-        Shape(NONE, NONE, NONE, false)
+    let row = row_of(kind);
+    Shape {
+        sort: row % SORTS,
+        left: row / LEFT % SORTS,
+        right: row / RIGHT % SORTS,
+        label: row >= LABEL,
     }
 }
 
 pub fn sort_of(kind: usize) -> u8
     ensures { λ r. ⌜ r ≡ sortOf (rowOf kind) ⌝ }
 {
-    shape_of(kind).0
-}
-
-pub fn left_of(kind: usize) -> u8
-    ensures { λ r. ⌜ r ≡ leftOf (rowOf kind) ⌝ }
-{
-    shape_of(kind).1
-}
-
-pub fn right_of(kind: usize) -> u8
-    ensures { λ r. ⌜ r ≡ rightOf (rowOf kind) ⌝ }
-{
-    shape_of(kind).2
-}
-
-pub fn uses_label(kind: usize) -> bool
-    ensures { λ r. ⌜ r ≡ labelOf (rowOf kind) ⌝ }
-{
-    shape_of(kind).3
+    row_of(kind) % SORTS
 }

@@ -5,10 +5,7 @@ ghost use Rattle.tables.specs.Shape.{OfOperand};
 use crate::entry::entry_at;
 use crate::entry::sort_at;
 use crate::kinds::NONE;
-use crate::kinds::left_of;
-use crate::kinds::right_of;
-use crate::kinds::sort_of;
-use crate::kinds::uses_label;
+use crate::kinds::shape_of;
 use tree::is_label;
 
 // "label is the given one (1 to 64)", and "unused fields are zero".
@@ -34,10 +31,10 @@ pub fn entry_right(table: &[u8], i: usize) -> bool
     ensures { λ r. ⌜ Decides r (EntryRight (entries (now (table .entry))) i) ⌝ }
 {
     let entry = entry_at(table, i);
-    let kind = entry.kind;
-    let listed = sort_of(kind) != NONE;
-    let label = label_right(uses_label(kind), entry.label);
-    let left = operand_right(table, i, left_of(kind), entry.left);
-    let right = operand_right(table, i, right_of(kind), entry.right);
+    let shape = shape_of(entry.kind);
+    let listed = shape.sort != NONE;
+    let label = label_right(shape.label, entry.label);
+    let left = operand_right(table, i, shape.left, entry.left);
+    let right = operand_right(table, i, shape.right, entry.right);
     listed & label & left & right
 }

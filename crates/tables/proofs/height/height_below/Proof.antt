@@ -9,14 +9,11 @@ use Rattle.tables.proofs.height.height_below.Tie as tie
 entry-at-requires : tie.Need-entry-at-requires
 entry-at-requires c κs = search needs
 
-left-of-requires : tie.Need-left-of-requires
-left-of-requires c κs = search needs
+shape-of-requires : tie.Need-shape-of-requires
+shape-of-requires c κs = search needs
 
 operand-height-requires : tie.Need-operand-height-requires
 operand-height-requires c κs = search needs
-
-right-of-requires : tie.Need-right-of-requires
-right-of-requires c κs = search needs
 
 operand-height-requires-2 : tie.Need-operand-height-requires-2
 operand-height-requires-2 c κs = search needs
@@ -26,20 +23,14 @@ higher-requires c κs = search needs
 
 returns : tie.Need-returns
 returns c =
+    let shaped = c .before .before .before in
+    let read = shaped .before in
+    let start = read .before .before .before in
+    let shape = shaped .shape-of .ensures in
     ap (λ (h : ℕ). h + 1) (c .higher .ensures)
-    ∙ height-read (c .before .before .before .before .before .before .before .before .args .heights .now)
-    (c .before .before .before .before .before .entry-at .result) (c .before .before .before .before .before .entry-at .ensures)
-    (c .before .before .before .before .left-of .ensures) (c .before .before .before .operand-height .ensures)
-    (c .before .before .right-of .ensures) (c .before .operand-height2 .ensures)
+    ∙ height-read (start .args .heights .now) (read .entry-at .result) (read .entry-at .ensures)
+    (shape .left) (c .before .before .operand-height .ensures) (shape .right) (c .before .operand-height2 .ensures)
 
 pub height-below-spec : {M : Type 1} → statement M
 height-below-spec =
-    tie.close
-    (tie.spec
-    entry-at-requires
-    left-of-requires
-    operand-height-requires
-    right-of-requires
-    operand-height-requires-2
-    higher-requires
-    returns)
+    tie.close (tie.spec entry-at-requires shape-of-requires operand-height-requires operand-height-requires-2 higher-requires returns)
