@@ -2,26 +2,30 @@
 // writes the entries of what it reads behind the `count` entries of the table.
 use tokens::answer::Parsed;
 use tokens::answer::closed;
+use tokens::answer::passed;
 use tokens::entry::behind;
+use tokens::entry::joined;
 use tokens::entry::leaf;
 use tokens::entry::put;
 use tokens::kind::ALWAYS;
 use tokens::kind::Bracket;
-use tokens::kind::Chain;
 use tokens::kind::LEADS;
 use tokens::kind::NEVER;
 use tokens::kind::NOT;
 use tokens::kind::STAR;
 use tokens::kind::STAY;
+use tokens::kind::Sort;
 use tokens::kind::axis;
 use tokens::kind::closing;
+use tokens::kind::inner;
 use tokens::kind::joint;
-use tokens::kind::kind_of;
+use tokens::kind::outer;
 use tokens::label::byte_at;
 use tokens::label::labelled;
 ghost use Prim.Native.Nat.{_<_};
 ghost use lib.ListN.{length};
-ghost use Rattle.tokens.specs.Reading.{Ready, Follows, paths, filters, items, atoms, terms, chains, links, brackets};
+ghost use Rattle.tokens.specs.Reading.{Ready, Follows, paths, filters, items, atoms, terms, brackets};
+ghost use Rattle.tokens.specs.Reading.{outerChain, innerChain, chains, links};
 
 // "a bracket is opened while 32 are open": no more may be open at once.
 const MOST_OPEN: usize = 32;
@@ -31,7 +35,7 @@ pub fn path(text: &[u8], at: usize, depth: usize, table: &mut [u8], count: usize
     requires { ⌜ Ready (now text) at (now table) count ⌝ }
     ensures { λ r. ⌜ Follows paths depth (now (text .entry)) at (now (table .entry)) count r (now (table .exit)) ⌝ }
 {
-    chained(text, at, depth, table, count, Chain::Path)
+    chained(text, at, depth, table, count, Sort::Path)
 }
 
 // "filter: conjunctions joined by `+`"
@@ -39,65 +43,53 @@ fn filter(text: &[u8], at: usize, depth: usize, table: &mut [u8], count: usize) 
     requires { ⌜ Ready (now text) at (now table) count ⌝ }
     ensures { λ r. ⌜ Follows filters depth (now (text .entry)) at (now (table .entry)) count r (now (table .exit)) ⌝ }
 {
-    chained(text, at, depth, table, count, Chain::Filter)
+    chained(text, at, depth, table, count, Sort::Filter)
 }
 
-// Links joined by a byte, grouping to the left: each link's entries, and behind the second and every later link the entry that joins it.
-fn chained(
-    text: &[u8],
-    at: usize,
-    depth: usize,
-    table: &mut [u8],
-    count: usize,
-    chain: Chain,
-) -> Parsed
+// The links of a path or of a filter. Two bytes join them, and the one of the inner chain binds closer; both group to the left. What is read
+// of the inner chain begins with the entry `begun`, and the next link with the entry `left`.
+fn chained(text: &[u8], at: usize, depth: usize, table: &mut [u8], count: usize, of: Sort) -> Parsed
     requires { ⌜ Ready (now text) at (now table) count ⌝ }
-    ensures { λ r. ⌜ Follows (chains chain) depth (now (text .entry)) at (now (table .entry)) count r (now (table .exit)) ⌝ }
+    ensures { λ r. ⌜ Follows (chains (outerChain of)) depth (now (text .entry)) at (now (table .entry)) count r (now (table .exit)) ⌝ }
 {
-    let first = link(text, at, depth, table, count, chain);
-    let Parsed::Got {
-        at: mut next,
-        count: mut written,
-    } = first
-    else {
-        return first;
-    };
-    while byte_at(text, next) == joint(chain) {
-        let more = link(text, next + 1, depth, table, written, chain);
+    let mut next = at;
+    let mut begun = count;
+    let mut left = count;
+    loop {
+        let more = link(text, next, depth, table, left, of);
         let Parsed::Got {
             at: last,
             count: right,
         } = more
         else {
-            return more;
+            return passed(more);
         };
-        put(table, right, kind_of(chain), 0, written - 1, right - 1);
-        next = last;
-        written = right + 1;
-    }
-    Parsed::Got {
-        at: next,
-        count: written,
+        left = joined(table, begun, left, right, inner(of));
+        let byte = byte_at(text, last);
+        if byte == joint(inner(of)) {
+            next = last + 1;
+            continue;
+        }
+        begun = joined(table, count, begun, left, outer(of));
+        left = begun;
+        if byte != joint(outer(of)) {
+            return Parsed::Got {
+                at: last,
+                count: left,
+            };
+        }
+        next = last + 1;
     }
 }
 
-// One link: the parts of a path are sequences, of a sequence items, of a filter conjunctions, of a conjunction terms.
-fn link(
-    text: &[u8],
-    at: usize,
-    depth: usize,
-    table: &mut [u8],
-    count: usize,
-    chain: Chain,
-) -> Parsed
+// One link of the inner chain: an item of a path, a term of a filter.
+fn link(text: &[u8], at: usize, depth: usize, table: &mut [u8], count: usize, sort: Sort) -> Parsed
     requires { ⌜ Ready (now text) at (now table) count ⌝ }
-    ensures { λ r. ⌜ Follows (links chain) depth (now (text .entry)) at (now (table .entry)) count r (now (table .exit)) ⌝ }
+    ensures { λ r. ⌜ Follows (links (innerChain sort)) depth (now (text .entry)) at (now (table .entry)) count r (now (table .exit)) ⌝ }
 {
-    match chain {
-        Chain::Path => chained(text, at, depth, table, count, Chain::Sequence),
-        Chain::Sequence => item(text, at, depth, table, count),
-        Chain::Filter => chained(text, at, depth, table, count, Chain::Conjunction),
-        Chain::Conjunction => term(text, at, depth, table, count),
+    match sort {
+        Sort::Path => item(text, at, depth, table, count),
+        Sort::Filter => term(text, at, depth, table, count),
     }
 }
 
@@ -112,7 +104,7 @@ fn item(text: &[u8], at: usize, depth: usize, table: &mut [u8], count: usize) ->
         count: mut written,
     } = first
     else {
-        return first;
+        return passed(first);
     };
     while byte_at(text, next) == b'*' {
         put(table, written, STAR, 0, written - 1, 0);

@@ -1,5 +1,5 @@
--- The constant table over kind numbers says what the list of kinds says: it is computed from the list, no kind stands behind it, and each byte
--- can be taken apart. Assumes nothing.
+-- The constant table over kind numbers says what the list of kinds says: it is computed from the list, no kind stands behind it, and each
+-- byte can be taken apart. Assumes nothing.
 use Prim.Native.Nat.{ℕ, zero, suc, _+_, _*_, _/_, _%_, _≤_, _<_}
 use native.Mathlib.Omega.{arith}
 use mathlib.Core.Path.{_≡_, refl, sym, ap, _∙_}

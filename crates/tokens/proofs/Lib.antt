@@ -5,6 +5,7 @@ pub mod Labels
 pub mod Entries
 pub mod Following
 pub mod Chains
+pub mod Begun
 pub mod Stars
 pub mod Enclosed
 pub mod Atoms

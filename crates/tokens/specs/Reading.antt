@@ -13,6 +13,8 @@ use Rattle.tokens.specs.declared.answer.Parsed.{Parsed}
 use Rattle.tokens.specs.declared.answer.Parsed.the-variants.{Got, Broken, Deep}
 use Rattle.tokens.specs.declared.kind.Chain.{Chain}
 use Rattle.tokens.specs.declared.kind.Chain.the-variants as chain
+use Rattle.tokens.specs.declared.kind.Sort.{Sort}
+use Rattle.tokens.specs.declared.kind.Sort.the-variants as sort
 use Rattle.tokens.specs.declared.kind.Bracket.{Bracket}
 use Rattle.tokens.specs.declared.kind.Bracket.the-variants as bracket
 
@@ -138,6 +140,21 @@ joinedKind chain.Path = 8
 joinedKind chain.Sequence = 7
 joinedKind chain.Filter = 22
 joinedKind chain.Conjunction = 21
+
+-- A path is a chain of sequences, and a filter one of conjunctions.
+abbrev pub outerChain : Sort → Chain
+outerChain sort.Path = chain.Path
+outerChain sort.Filter = chain.Filter
+
+-- These are chains themselves: of items, and of terms.
+abbrev pub innerChain : Sort → Chain
+innerChain sort.Path = chain.Sequence
+innerChain sort.Filter = chain.Conjunction
+
+-- What the entries from `left` up to `right` say is joined to what those from `from` up to `left` say, where there are any.
+pub data Joins (c : Chain) (before : Bytes) (from left right : ℕ) : ℕ → Bytes → Type 0 where
+  alone : left ≤ from → Joins c before from left right right before
+  both : {after : Bytes} → from < left → Added before right (one (joinedKind c) 0 (left - 1) (right - 1)) after → Joins c before from left right (right + 1) after
 
 -- A label, as a filter of it is written.
 abbrev pub labels : Line

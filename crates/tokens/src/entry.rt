@@ -1,9 +1,12 @@
 // The entries of the local table, each of six bytes.
 use crate::answer::Parsed;
+use crate::answer::passed;
+use crate::kind::Chain;
+use crate::kind::kind_of;
 ghost use mathlib.Core.Path.{_≡_};
-ghost use Prim.Native.Nat.{_+_, _*_, _≤_};
+ghost use Prim.Native.Nat.{_+_, _*_, _<_, _≤_};
 ghost use lib.ListN.{length};
-ghost use Rattle.tokens.specs.Reading.{one, Added, RoomBehind, Behind};
+ghost use Rattle.tokens.specs.Reading.{one, Added, Joins, RoomBehind, Behind};
 ghost use Rattle.tokens.specs.declared.answer.Parsed.the-variants.{Got};
 
 // Writes an entry behind the `count` entries that the table has.
@@ -32,13 +35,26 @@ pub fn leaf(table: &mut [u8], count: usize, kind: u8, label: u8, next: usize) ->
     }
 }
 
+// Joins what the entries from `from` up to `left` say with what those from there up to `right` say, where there are any of the first. Gives
+// how many entries there are.
+pub fn joined(table: &mut [u8], from: usize, left: usize, right: usize, chain: Chain) -> usize
+    requires { ⌜ (left < right) × (from < left → 6 * (right + 1) ≤ length (now table)) ⌝ }
+    ensures { λ r. ⌜ Joins chain (now (table .entry)) from left right r (now (table .exit)) ⌝ }
+{
+    if from < left {
+        put(table, right, kind_of(chain), 0, left - 1, right - 1);
+        return right + 1;
+    }
+    right
+}
+
 // Writes an entry behind its one operand, where that was read.
 pub fn behind(table: &mut [u8], operand: Parsed, kind: u8) -> Parsed
     requires { ⌜ RoomBehind operand (now table) ⌝ }
     ensures { λ r. ⌜ Behind kind (now (table .entry)) operand r (now (table .exit)) ⌝ }
 {
     let Parsed::Got { at, count } = operand else {
-        return operand;
+        return passed(operand);
     };
     put(table, count, kind, 0, count - 1, 0);
     Parsed::Got {

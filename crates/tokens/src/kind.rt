@@ -1,6 +1,6 @@
 // The numbers of the kinds in the list of kinds, and the bytes that stand for them in a text.
 ghost use mathlib.Core.Path.{_≡_};
-ghost use Rattle.tokens.specs.Reading.{joining, joinedKind, closingByte, AxisOf};
+ghost use Rattle.tokens.specs.Reading.{outerChain, innerChain, joining, joinedKind, closingByte, AxisOf};
 
 pub const SELF: u8 = 1;
 
@@ -40,6 +40,32 @@ pub enum Chain {
     Sequence,
     Filter,
     Conjunction,
+}
+
+// A path is a chain of sequences, which are chains of items; a filter is a chain of conjunctions, which are chains of terms.
+pub enum Sort {
+    Path,
+    Filter,
+}
+
+// The chain that a path or a filter is.
+pub fn outer(sort: Sort) -> Chain
+    ensures { λ r. ⌜ r ≡ outerChain sort ⌝ }
+{
+    match sort {
+        Sort::Path => Chain::Path,
+        Sort::Filter => Chain::Filter,
+    }
+}
+
+// The chain that each link of it is.
+pub fn inner(sort: Sort) -> Chain
+    ensures { λ r. ⌜ r ≡ innerChain sort ⌝ }
+{
+    match sort {
+        Sort::Path => Chain::Sequence,
+        Sort::Filter => Chain::Conjunction,
+    }
 }
 
 // The byte that joins the links of a chain.

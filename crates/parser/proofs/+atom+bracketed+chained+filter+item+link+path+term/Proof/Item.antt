@@ -15,6 +15,7 @@ use Rattle.parser.proofs.+atom+bracketed+chained+filter+item+link+path+
 use Rattle.parser.proofs.+atom+bracketed+chained+filter+item+link+path+term.Lts-item as lts
 use Rattle.parser.proofs.item.Reads as item
 use Rattle.parser.proofs.atom.Reads as atom
+use Rattle.tokens.proofs.answer.passed.Reads as passed-reads
 use Rattle.tokens.proofs.label.byte_at.Reads as byte-at-reads
 use Rattle.tokens.proofs.entry.put.Reads as put-reads
 use Rattle.parser.proofs.atom.Kinds as atom-kinds
@@ -25,7 +26,7 @@ abbrev pub own : ℕ → In 2 item-kinds.ps
 own = given item-kinds.ps μ-item item.Pre
 
 abbrev pub claims : ℕ → lts.Claims
-claims t = (asked atom-kinds.ps μ-atom atom.Pre t, atom.Post, byte-at-reads.Asked, byte-at-reads.Learnt, put-reads.Asked, put-reads.Learnt)
+claims t = (asked atom-kinds.ps μ-atom atom.Pre t, atom.Post, passed-reads.Asked, passed-reads.Learnt, byte-at-reads.Asked, byte-at-reads.Learnt, put-reads.Asked, put-reads.Learnt)
 
 abbrev pub Inv-loop : lts.InvT-loop
 Inv-loop text at depth table₀ count next₀ written₀ table next written =
@@ -88,11 +89,14 @@ module _ (t : ℕ) where
   pub enum-known-first : lts.Need-enum-known-first (claims t) (own t) item.Post Inv-loop μ-loop
   enum-known-first c = search needs
 
+  pub passed-requires : lts.Need-passed-requires (claims t) (own t) item.Post Inv-loop μ-loop
+  passed-requires c κs = search needs
+
   pub same-length : lts.Need-same-length (claims t) (own t) item.Post Inv-loop μ-loop
   same-length c = search needs
 
   pub returns : lts.Need-returns (claims t) (own t) item.Post Inv-loop μ-loop
-  returns c = atom-not-read (c .match .keys2) (c .before .before .before .atom .ensures)
+  returns c = rw (c .passed .ensures) (atom-not-read (c .before .match .keys2) (c .before .before .before .before .atom .ensures))
 
   pub loop-holds : lts.Need-loop-holds (claims t) (own t) item.Post Inv-loop μ-loop
   loop-holds c = (refl, λ before g. g)

@@ -6,8 +6,8 @@ use lib.ListN.{length}
 use borrow.Fn.Kind.{PK}
 use borrow.Fn.Kinds.{In}
 use borrow.Fn.PlainCycle.{Measures, is, falls, and}
-use Rattle.tokens.specs.declared.kind.Chain.{Chain}
-use Rattle.tokens.specs.declared.kind.Chain.the-variants as chain
+use Rattle.tokens.specs.declared.kind.Sort.{Sort}
+use Rattle.tokens.specs.declared.kind.Sort.the-variants as sort
 use Rattle.parser.proofs.atom.Kinds as atom
 use Rattle.parser.proofs.bracketed.Kinds as bracketed
 use Rattle.parser.proofs.chained.Kinds as chained
@@ -29,12 +29,10 @@ asked ps μ pre t = and 2 ps (falls 2 ps _<_ μ t) pre
 abbrev unread : List ℕ → ℕ → ℕ → ℕ
 unread text at rank = 16 * (length text - at) + rank
 
--- the rank of a chain's links
-abbrev pub rank : Chain → ℕ
-rank chain.Path = 5
-rank chain.Sequence = 3
-rank chain.Filter = 11
-rank chain.Conjunction = 9
+-- the rank of the links of a path and of a filter
+abbrev pub rank : Sort → ℕ
+rank sort.Path = 3
+rank sort.Filter = 9
 
 abbrev pub μ-bracketed : Measures 2 bracketed.ps ℕ
 μ-bracketed κs a = unread (a .0 .now) (a .1 .0) 0

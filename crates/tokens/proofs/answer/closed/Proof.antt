@@ -10,8 +10,11 @@ use Rattle.tokens.proofs.answer.closed.Tie as tie
 enum-known-inner : tie.Need-enum-known-inner
 enum-known-inner c = search needs
 
+passed-requires : tie.Need-passed-requires
+passed-requires c κs = search needs
+
 returns : tie.Need-returns
-returns c = passed-by (failed (c .before .before .args .inner) (c .match .keys2) .2)
+returns c = rw (c .passed .ensures) (passed-by (failed (c .before .before .before .args .inner) (c .before .match .keys2) .2))
 
 byte-at-requires : tie.Need-byte-at-requires
 byte-at-requires c κs = search needs
@@ -27,4 +30,4 @@ returns-3 c = open-behind _ _ _ (c .before .before .before .inner .given .1) (λ
 
 pub closed-spec : {M : Type 1} → statement M
 closed-spec =
-    tie.close (tie.spec enum-known-inner returns byte-at-requires add-t8 returns-2 returns-3)
+    tie.close (tie.spec enum-known-inner passed-requires returns byte-at-requires add-t8 returns-2 returns-3)

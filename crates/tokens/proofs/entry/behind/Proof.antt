@@ -15,8 +15,11 @@ room c = room-behind _ _ _ (c .operand .given .1) _ (c .before .before .before .
 enum-known-operand : tie.Need-enum-known-operand
 enum-known-operand c = search needs
 
+passed-requires : tie.Need-passed-requires
+passed-requires c κs = search needs
+
 returns : tie.Need-returns
-returns c = passed-on (failed (c .before .before .args .operand) (c .match .keys2) .2)
+returns c = rw (c .passed .ensures) (passed-on (failed (c .before .before .before .args .operand) (c .before .match .keys2) .2))
 
 sub-put : tie.Need-sub-put
 sub-put c = room (c .before .before) .0
@@ -36,4 +39,4 @@ returns-2 c = written-behind _ _ _ (c .before .before .before .before .before .o
 pub behind-spec : {M : Type 1} → statement M
 behind-spec =
     tie.close
-    (tie.spec enum-known-operand returns sub-put put-requires add-t9 same-length returns-2)
+    (tie.spec enum-known-operand passed-requires returns sub-put put-requires add-t9 same-length returns-2)
