@@ -20,8 +20,8 @@ pub fn passed(answer: Parsed) -> Parsed
 {
     match answer {
         Parsed::Got { at, count } => Parsed::Got { at, count },
-        Parsed::Broken(at) => Parsed::Broken(at),
-        Parsed::Deep(at) => Parsed::Deep(at),
+        Parsed::Broken(place) => Parsed::Broken(place),
+        Parsed::Deep(place) => Parsed::Deep(place),
     }
 }
 
