@@ -23,6 +23,11 @@ const MOST_BYTES: usize = 1024;
 // Two entries of six bytes for each byte of a text: no text writes more.
 const TABLE: usize = 12 * MOST_BYTES;
 
+// Most texts are short, and a table is cleared for each text: these have one of their own.
+const SHORT_BYTES: usize = 128;
+
+const SHORT_TABLE: usize = 12 * SHORT_BYTES;
+
 // The whole text as a path: nothing may stand behind it.
 fn read_whole(text: &[u8], table: &mut [u8]) -> Parsed
     requires { ⌜ TextLength (now text) × (12 * length (now text) ≤ length (now table)) ⌝ }
@@ -51,6 +56,22 @@ fn write_out(table: &[u8], room: &mut [u8]) -> Reply
     Reply::Count(count)
 }
 
+// Reads a text of which the length is right by way of a table that has room for it.
+fn read_by(text: &[u8], table: &mut [u8], room: &mut [u8]) -> Reply
+    requires { ⌜ TextLength (now text) × (12 * length (now text) ≤ length (now table)) × (1536 ≤ length (now room)) ⌝ }
+    ensures { λ r. ⌜ TextRead (now (text .entry)) (now (room .entry)) (said r) (now (room .exit)) ⌝ }
+{
+    let parsed = read_whole(text, table);
+    match parsed {
+        Parsed::Broken(at) => refuse(Reason::NotInGrammar, at),
+        Parsed::Deep(at) => refuse(Reason::TooManyOpen, at),
+        Parsed::Got { at: _, count } => {
+            let size = 6 * count;
+            write_out(&table[..size], room)
+        }
+    }
+}
+
 // "Read a text into a table; room 1,536 bytes. Gives the number of entries."
 pub fn read_text(text: &[u8], room: &mut [u8]) -> Reply
     ensures { λ r. ⌜ TextRead (now (text .entry)) (now (room .entry)) (said r) (now (room .exit)) ⌝ }
@@ -64,14 +85,10 @@ pub fn read_text(text: &[u8], room: &mut [u8]) -> Reply
     if text.len() > MOST_BYTES {
         return refuse(Reason::TextLength, 0);
     }
-    let mut table = [0u8; TABLE];
-    let parsed = read_whole(text, &mut table);
-    match parsed {
-        Parsed::Broken(at) => refuse(Reason::NotInGrammar, at),
-        Parsed::Deep(at) => refuse(Reason::TooManyOpen, at),
-        Parsed::Got { at: _, count } => {
-            let size = 6 * count;
-            write_out(&table[..size], room)
-        }
+    if text.len() <= SHORT_BYTES {
+        let mut short = [0u8; SHORT_TABLE];
+        return read_by(text, &mut short, room);
     }
+    let mut table = [0u8; TABLE];
+    read_by(text, &mut table, room)
 }
