@@ -22,8 +22,10 @@ use tokens::kind::joint;
 use tokens::kind::outer;
 use tokens::label::byte_at;
 use tokens::label::labelled;
+use tokens::label::past_nots;
+ghost use mathlib.Core.Path.{_≡_};
 ghost use Prim.Native.Nat.{_<_};
-ghost use lib.ListN.{length};
+ghost use lib.ListN.{length, getD};
 ghost use Rattle.tokens.specs.Reading.{Ready, Follows, paths, filters, items, atoms, terms, brackets};
 ghost use Rattle.tokens.specs.Reading.{outerChain, innerChain, chains, links};
 
@@ -46,8 +48,8 @@ fn filter(text: &[u8], at: usize, depth: usize, table: &mut [u8], count: usize) 
     chained(text, at, depth, table, count, Sort::Filter)
 }
 
-// The links of a path or of a filter. Two bytes join them, and the one of the inner chain binds closer; both group to the left. What is read
-// of the inner chain begins with the entry `begun`, and the next link with the entry `left`.
+// The links of a path or of a filter. Two bytes join them, and the one of the inner chain binds closer; both group to the left. What is
+// read of the inner chain begins with the entry `begun`, and the next link with the entry `left`.
 fn chained(text: &[u8], at: usize, depth: usize, table: &mut [u8], count: usize, of: Sort) -> Parsed
     requires { ⌜ Ready (now text) at (now table) count ⌝ }
     ensures { λ r. ⌜ Follows (chains (outerChain of)) depth (now (text .entry)) at (now (table .entry)) count r (now (table .exit)) ⌝ }
@@ -159,17 +161,27 @@ fn bracketed(
     closed(text, inner, closing(bracket))
 }
 
-// "Term: `!` term, `t`, `f`, `#` and a label, `{` filter `}`, or a path"
+// "Term: `!` term, `t`, `f`, `#` and a label, `{` filter `}`, or a path". The `!` in front are passed, and their entries written last.
 fn term(text: &[u8], at: usize, depth: usize, table: &mut [u8], count: usize) -> Parsed
     requires { ⌜ Ready (now text) at (now table) count ⌝ }
     ensures { λ r. ⌜ Follows terms depth (now (text .entry)) at (now (table .entry)) count r (now (table .exit)) ⌝ }
 {
+    let mut next = past_nots(text, at);
+    let mut answer = plain(text, next, depth, table, count);
+    while at < next {
+        answer = behind(table, answer, NOT);
+        next -= 1;
+    }
+    answer
+}
+
+// A term that begins with no `!`.
+fn plain(text: &[u8], at: usize, depth: usize, table: &mut [u8], count: usize) -> Parsed
+    requires { ⌜ Ready (now text) at (now table) count × (getD (now text) at 0 ≡ 33 → ⊥) ⌝ }
+    ensures { λ r. ⌜ Follows terms depth (now (text .entry)) at (now (table .entry)) count r (now (table .exit)) ⌝ }
+{
     let byte = byte_at(text, at);
     match byte {
-        b'!' => {
-            let inner = term(text, at + 1, depth, table, count);
-            behind(table, inner, NOT)
-        }
         b't' => leaf(table, count, ALWAYS, 0, at + 1),
         b'f' => leaf(table, count, NEVER, 0, at + 1),
         b'#' => labelled(text, at + 1, table, count),

@@ -160,6 +160,13 @@ pub data Joins (c : Chain) (before : Bytes) (from left right : ℕ) : ℕ → By
 abbrev pub labels : Line
 labels = asLine (λ k. LabelReads) (λ n l. one 16 l 0 0) 1
 
+-- From a place up to another there stands nothing but !, and there none.
+pub record Nots (text : Bytes) (at next : ℕ) : Type 0 where
+  pub on : at ≤ next
+  pub within : next ≤ length text
+  pub each : (k : ℕ) → k < next → at ≤ k → getD text k 0 ≡ 33
+  pub other : getD text next 0 ≡ 33 → ⊥
+
 -- A bracket opens with the first byte: what stands in it is read with one more bracket open, up to the byte that closes it.
 pub data Bracketed {A : Type 0} (inner : ℕ → Bytes → Result A → Type 0) (close : ℕ) : ℕ → Bytes → Result A → Type 0 where
   closes : {k c : ℕ} {b more : Bytes} {x : A} → k < mostOpen → inner (suc k) b (got x (close ∷ more)) → Bracketed inner close k (c ∷ b) (got x more)

@@ -6,13 +6,25 @@ ghost use mathlib.Core.Path.{_≡_};
 ghost use Prim.Native.Nat.{_≤_};
 ghost use lib.ListN.{length, getD};
 ghost use Rattle.tokens.specs.Label.{DigitOf, LabelAt};
-ghost use Rattle.tokens.specs.Reading.{Ready, Follows, labels};
+ghost use Rattle.tokens.specs.Reading.{Ready, Follows, labels, Nots};
 
 // The byte at a place, 0 behind the end: no byte of the grammar.
 pub fn byte_at(text: &[u8], at: usize) -> u8
     ensures { λ r. ⌜ r ≡ getD (now (text .entry)) at 0 ⌝ }
 {
     if at < text.len() { text[at] } else { 0 }
+}
+
+// The first place from `at` on where no `!` stands.
+pub fn past_nots(text: &[u8], at: usize) -> usize
+    requires { ⌜ at ≤ length (now text) ⌝ }
+    ensures { λ r. ⌜ Nots (now (text .entry)) at r ⌝ }
+{
+    let mut next = at;
+    while byte_at(text, next) == b'!' {
+        next += 1;
+    }
+    next
 }
 
 // A label and the place behind it.

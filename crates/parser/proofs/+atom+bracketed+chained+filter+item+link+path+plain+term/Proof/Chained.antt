@@ -14,8 +14,8 @@ use Rattle.tokens.proofs.Places.{inside}
 use Rattle.tokens.proofs.Following.{got-stands}
 use Rattle.tokens.proofs.Chains.{GoesOn, chaining, Going, ended}
 use Rattle.tokens.proofs.Begun.{first, further, linked, not-linked, begun-on, begun-ready, room-to-join, as-link, Standing}
-use Rattle.parser.proofs.+atom+bracketed+chained+filter+item+link+path+term.Proof.Measures.{given, asked, μ-chained, μ-link}
-use Rattle.parser.proofs.+atom+bracketed+chained+filter+item+link+path+term.Lts-chained as lts
+use Rattle.parser.proofs.+atom+bracketed+chained+filter+item+link+path+plain+term.Proof.Measures.{given, asked, μ-chained, μ-link}
+use Rattle.parser.proofs.+atom+bracketed+chained+filter+item+link+path+plain+term.Lts-chained as lts
 use Rattle.parser.proofs.chained.Reads as chained
 use Rattle.parser.proofs.link.Reads as link
 use Rattle.tokens.proofs.answer.passed.Reads as passed-reads

@@ -11,8 +11,8 @@ use Rattle.tokens.specs.Reading.{items}
 use Rattle.tokens.proofs.Places.{inside}
 use Rattle.tokens.proofs.Chains.{Going}
 use Rattle.tokens.proofs.Stars.{atom-read, atom-not-read, no-star, starred}
-use Rattle.parser.proofs.+atom+bracketed+chained+filter+item+link+path+term.Proof.Measures.{given, asked, μ-atom, μ-item}
-use Rattle.parser.proofs.+atom+bracketed+chained+filter+item+link+path+term.Lts-item as lts
+use Rattle.parser.proofs.+atom+bracketed+chained+filter+item+link+path+plain+term.Proof.Measures.{given, asked, μ-atom, μ-item}
+use Rattle.parser.proofs.+atom+bracketed+chained+filter+item+link+path+plain+term.Lts-item as lts
 use Rattle.parser.proofs.item.Reads as item
 use Rattle.parser.proofs.atom.Reads as atom
 use Rattle.tokens.proofs.answer.passed.Reads as passed-reads

@@ -15,6 +15,7 @@ use Rattle.parser.proofs.filter.Kinds as filter
 use Rattle.parser.proofs.item.Kinds as item
 use Rattle.parser.proofs.link.Kinds as link
 use Rattle.parser.proofs.path.Kinds as path
+use Rattle.parser.proofs.plain.Kinds as plain
 use Rattle.parser.proofs.term.Kinds as term
 
 -- what a reader is given at the measure t
@@ -32,7 +33,7 @@ unread text at rank = 16 * (length text - at) + rank
 -- the rank of the links of a path and of a filter
 abbrev pub rank : Sort → ℕ
 rank sort.Path = 3
-rank sort.Filter = 9
+rank sort.Filter = 10
 
 abbrev pub μ-bracketed : Measures 2 bracketed.ps ℕ
 μ-bracketed κs a = unread (a .0 .now) (a .1 .0) 0
@@ -52,8 +53,11 @@ abbrev pub μ-chained : Measures 2 chained.ps ℕ
 abbrev pub μ-path : Measures 2 path.ps ℕ
 μ-path κs a = unread (a .0 .now) (a .1 .0) 7
 
+abbrev pub μ-plain : Measures 2 plain.ps ℕ
+μ-plain κs a = unread (a .0 .now) (a .1 .0) 8
+
 abbrev pub μ-term : Measures 2 term.ps ℕ
-μ-term κs a = unread (a .0 .now) (a .1 .0) 8
+μ-term κs a = unread (a .0 .now) (a .1 .0) 9
 
 abbrev pub μ-filter : Measures 2 filter.ps ℕ
 μ-filter κs a = unread (a .0 .now) (a .1 .0) 13

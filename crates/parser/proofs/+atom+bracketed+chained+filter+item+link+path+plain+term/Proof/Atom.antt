@@ -10,8 +10,8 @@ use Rattle.tokens.specs.Reading.{AxisOf}
 use Rattle.tokens.proofs.Places.{inside}
 use Rattle.tokens.proofs.Following.{room-after}
 use Rattle.tokens.proofs.Atoms.{square-follows, round-follows, axis-seen, axis-follows, no-atom}
-use Rattle.parser.proofs.+atom+bracketed+chained+filter+item+link+path+term.Proof.Measures.{given, asked, μ-atom, μ-bracketed}
-use Rattle.parser.proofs.+atom+bracketed+chained+filter+item+link+path+term.Lts-atom as lts
+use Rattle.parser.proofs.+atom+bracketed+chained+filter+item+link+path+plain+term.Proof.Measures.{given, asked, μ-atom, μ-bracketed}
+use Rattle.parser.proofs.+atom+bracketed+chained+filter+item+link+path+plain+term.Lts-atom as lts
 use Rattle.parser.proofs.atom.Reads as atom
 use Rattle.tokens.proofs.label.byte_at.Reads as byte-at-reads
 use Rattle.parser.proofs.bracketed.Reads as bracketed

@@ -8,8 +8,8 @@ use borrow.Author.Needs.{needs}
 use borrow.Fn.Kinds.{In}
 use Rattle.tokens.proofs.Following.{place-in-text}
 use Rattle.tokens.proofs.Enclosed.{bracket-too-deep, bracket-follows, path-inside, filter-inside}
-use Rattle.parser.proofs.+atom+bracketed+chained+filter+item+link+path+term.Proof.Measures.{given, asked, μ-bracketed, μ-filter, μ-path}
-use Rattle.parser.proofs.+atom+bracketed+chained+filter+item+link+path+term.Lts-bracketed as lts
+use Rattle.parser.proofs.+atom+bracketed+chained+filter+item+link+path+plain+term.Proof.Measures.{given, asked, μ-bracketed, μ-filter, μ-path}
+use Rattle.parser.proofs.+atom+bracketed+chained+filter+item+link+path+plain+term.Lts-bracketed as lts
 use Rattle.parser.proofs.bracketed.Reads as bracketed
 use Rattle.parser.proofs.path.Reads as path
 use Rattle.tokens.proofs.kind.closing.Reads as closing-reads
