@@ -35,8 +35,8 @@ pub fn leaf(table: &mut [u8], count: usize, kind: u8, label: u8, next: usize) ->
     }
 }
 
-// Joins what the entries from `from` up to `left` say with what those from there up to `right` say, where there are any of the first. Gives
-// how many entries there are.
+// Writes the entry that joins two links, where there are two: the entries from `from` up to `left` are the one, those up to `right` the
+// other. Gives how many entries there are.
 pub fn joined(table: &mut [u8], from: usize, left: usize, right: usize, chain: Chain) -> usize
     requires { ⌜ (left < right) × (from < left → 6 * (right + 1) ≤ length (now table)) ⌝ }
     ensures { λ r. ⌜ Joins chain (now (table .entry)) from left right r (now (table .exit)) ⌝ }
