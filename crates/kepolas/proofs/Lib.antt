@@ -1,3 +1,3 @@
-mod Words
+mod Refusals
 mod Parts
 pub mod Unique

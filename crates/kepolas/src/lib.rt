@@ -1,5 +1,6 @@
-// The calls for C and Rust. What they say is told in three words that the caller lends: a reply as 0, the count and 0, or as 1, the
-// refusal's number and its place; a part of a roll as 0, its start and its end.
+// The calls for C and Rust, on numbers and slices of bytes. A call returns the refusal's number, or 0 where it gives a count; the count, or
+// the refusal's place, it writes to a number that the caller lends.
+use answer::answer_on_roll;
 use reader::read_text;
 use reply::Reply;
 use reply::number_of;
@@ -7,63 +8,69 @@ use roll::check_roll;
 use roll::run_of;
 ghost use mathlib.Core.Path.{_≡_};
 ghost use Rattle.reply.specs.Reply.{said};
-ghost use Rattle.roll.specs.Promise.{RollChecked};
+ghost use Rattle.roll.specs.Promise.{RollChecked, RunPlace};
 ghost use Rattle.text.specs.Promise.{TextRead};
-ghost use Rattle.kepolas.specs.Told.{inFront, told, Tells, PartTold};
-
-// Writes three words in front of `out`, or nothing where it is too short.
-fn put(out: &mut [u64], first: u64, second: u64, third: u64)
-    ensures { λ _. ⌜ now (out .exit) ≡ inFront (now (out .entry)) first second third ⌝ }
-{
-    if 3 <= out.len() {
-        out[0] = first;
-        out[1] = second;
-        out[2] = third;
-    }
-}
+ghost use Rattle.answer.specs.Promise.{Answered};
+ghost use Rattle.kepolas.specs.Told.{heard, Tells};
 
 // Tells a reply.
-fn tell(reply: Reply, out: &mut [u64])
-    ensures { λ _. ⌜ now (out .exit) ≡ told (now (out .entry)) (said reply) ⌝ }
+fn tell(reply: Reply, told: &mut usize) -> u64
+    ensures { λ r. ⌜ heard r (now (told .exit)) ≡ said reply ⌝ }
 {
     match reply {
-        Reply::Count(n) => put(out, 0, n as u64, 0),
+        Reply::Count(n) => {
+            *told = n;
+            0
+        }
         Reply::Refused(refusal) => {
             let reason = refusal.reason;
-            let place = refusal.place;
-            put(out, 1, number_of(reason), place as u64)
+            *told = refusal.place;
+            number_of(reason)
         }
     }
 }
 
 // Call 1.
 #[no_mangle]
-pub extern "C" fn kepolas_check_roll(roll: &[u8], reply: &mut [u64])
-    ensures { λ _. ⌜ Tells (RollChecked (now (roll .entry))) (now (reply .entry)) (now (reply .exit)) ⌝ }
+pub extern "C" fn kepolas_check_roll(roll: &[u8], told: &mut usize) -> u64
+    ensures { λ r. ⌜ Tells (RollChecked (now (roll .entry))) r (now (told .exit)) ⌝ }
 {
-    let answer = check_roll(roll);
-    tell(answer, reply);
+    tell(check_roll(roll), told)
 }
 
 // Call 2.
 #[no_mangle]
-pub extern "C" fn kepolas_read_text(text: &[u8], room: &mut [u8], reply: &mut [u64])
-    ensures { λ _. ⌜ Tells (λ s. TextRead (now (text .entry)) (now (room .entry)) s (now (room .exit))) (now (reply .entry)) (now (reply .exit)) ⌝ }
+pub extern "C" fn kepolas_read_text(text: &[u8], room: &mut [u8], told: &mut usize) -> u64
+    ensures { λ r. ⌜ Tells (λ s. TextRead (now (text .entry)) (now (room .entry)) s (now (room .exit))) r (now (told .exit)) ⌝ }
 {
-    let answer = read_text(text, room);
-    tell(answer, reply);
+    tell(read_text(text, room), told)
 }
 
-// Call 7.
+// Call 3.
 #[no_mangle]
-pub extern "C" fn kepolas_run_of(roll: &[u8], k: usize, part: &mut [u64])
-    ensures { λ _. ⌜ PartTold (now (roll .entry)) k (now (part .entry)) (now (part .exit)) ⌝ }
+pub extern "C" fn kepolas_answer_on_roll(
+    roll: &[u8],
+    query: &[u8],
+    room: &mut [u8],
+    told: &mut usize,
+) -> u64
+    ensures { λ r. ⌜ Tells (λ s. Answered (now (roll .entry)) (now (query .entry)) (now (room .entry)) s (now (room .exit))) r (now (told .exit)) ⌝ }
+{
+    tell(answer_on_roll(roll, query, room), told)
+}
+
+// Call 7 gives a part and no number: it tells where the part starts and ends in the bytes of the roll, an empty one by 0 and 0.
+#[no_mangle]
+pub extern "C" fn kepolas_run_of(roll: &[u8], k: usize, start: &mut usize, end: &mut usize)
+    ensures { λ _. ⌜ RunPlace (now (roll .entry)) k (now (start .exit)) (now (end .exit)) ⌝ }
 {
     let size = run_of(roll, k).len();
     if size == 0 {
-        put(part, 0, 0, 0);
+        *start = 0;
+        *end = 0;
     } else {
-        let start = 4 * k;
-        put(part, 0, start as u64, (start + size) as u64);
+        let first = 4 * k;
+        *start = first;
+        *end = first + size;
     }
 }

@@ -8,51 +8,21 @@ use Rattle.kepolas.proofs.kepolas_run_of.Tie as tie
 run-of-requires : tie.Need-run-of-requires
 run-of-requires c κs = search needs
 
-put-requires : tie.Need-put-requires
-put-requires c κs = search needs
-
-mul-start : tie.Need-mul-start
-mul-start c =
+mul-first : tie.Need-mul-first
+mul-first c =
     let part = full-place (c .before .run-of .ensures) (omega (arith, c .if1 .left)) in
     omega arith
 
-add-put : tie.Need-add-put
-add-put c =
-    let part = full-place (c .before .before .run-of .ensures) (omega (arith, c .before .if1 .left)) in
+add-end : tie.Need-add-end
+add-end c =
+    let part = full-place (c .before .run-of .ensures) (omega (arith, c .if1 .left)) in
     omega arith
 
-put-requires-2 : tie.Need-put-requires-2
-put-requires-2 c κs = search needs
-
-same-length : tie.Need-same-length
-same-length c = search needs
-
 returns : tie.Need-returns
-returns c =
-    let at-put = c .before .before in
-    let at-if = at-put .before .before in
-    record { start = 0; end = 0; place = empty-place (at-if .before .run-of .ensures) (at-if .if1 .taken); words = at-put .put .ensures }
-
-same-length-2 : tie.Need-same-length-2
-same-length-2 c = search needs
+returns c = empty-place (c .before .run-of .ensures) (c .if1 .taken)
 
 returns-2 : tie.Need-returns-2
-returns-2 c =
-    let at-put = c .before .before in
-    let at-if = at-put .before .before in
-    let part = full-place (at-if .before .run-of .ensures) (omega (arith, at-if .if1 .left)) in
-    record { start = _; end = _; place = part .0; words = at-put .put2 .ensures }
+returns-2 c = full-place (c .before .run-of .ensures) (omega (arith, c .if1 .left)) .0
 
 pub kepolas-run-of-spec : {M : Type 1} → statement M
-kepolas-run-of-spec =
-    tie.close
-    (tie.spec
-    run-of-requires
-    put-requires
-    mul-start
-    add-put
-    put-requires-2
-    same-length
-    returns
-    same-length-2
-    returns-2)
+kepolas-run-of-spec = tie.close (tie.spec run-of-requires mul-first add-end returns returns-2)
