@@ -2,7 +2,7 @@
 
 mod common;
 
-use common::{from_hex, Chance, UNTOUCHED};
+use common::{cases, from_hex, Chance, UNTOUCHED};
 
 const ROOM: usize = 1536;
 
@@ -32,10 +32,7 @@ fn every_text_of_up_to_four_bytes() {
 
 #[test]
 fn the_listed_texts() {
-    let cases: Vec<Vec<&str>> =
-        include_str!("../../second/tests/vectors/texts.txt").lines().map(|line| line.split(' ').collect()).collect();
-    assert_eq!(cases.len(), 300);
-    for case in cases {
+    for case in cases(include_str!("../../second/tests/vectors/texts.txt")) {
         let mut room = vec![UNTOUCHED; ROOM];
         let reply = compare::read_text(&from_hex(case[0]), &mut room);
         let table = from_hex(case[case.len() - 1]);

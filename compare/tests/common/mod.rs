@@ -1,4 +1,4 @@
-//! Chance with a fixed seed, and bytes in hex.
+//! Chance with a fixed seed, bytes in hex, and rolls.
 #![allow(dead_code)]
 
 /// What rooms hold before a call.
@@ -11,6 +11,13 @@ pub fn from_hex(word: &str) -> Vec<u8> {
     (0..word.len()).step_by(2).map(|at| u8::from_str_radix(&word[at..at + 2], 16).expect("hex")).collect()
 }
 
+/// The words of each line of a file that has 300 of them, so that one cut short does not pass.
+pub fn cases(file: &'static str) -> Vec<Vec<&'static str>> {
+    let cases: Vec<_> = file.lines().map(|line| line.split(' ').collect()).collect();
+    assert_eq!(cases.len(), 300);
+    cases
+}
+
 /// A small generator (xorshift), so that a run can be repeated.
 pub struct Chance(pub u64);
 
@@ -21,4 +28,37 @@ impl Chance {
         self.0 ^= self.0 << 17;
         (self.0 % bound as u64) as usize
     }
+
+    pub fn pick<T: Copy>(&mut self, list: &[T]) -> T {
+        list[self.below(list.len())]
+    }
+}
+
+/// The record of a node; the root has no parent.
+pub fn node(label: u8, parent: usize) -> [u8; 4] {
+    [label, 0, (parent % 256) as u8, (parent / 256) as u8]
+}
+
+pub const NO_PARENT: usize = 65_535;
+
+/// A roll that is in order: the parent of a record is the one before it, or above that one by chance.
+pub fn grown_roll(chance: &mut Chance, size: usize, labels: usize) -> Vec<u8> {
+    let mut parents: Vec<usize> = vec![NO_PARENT];
+    while parents.len() < size {
+        let mut parent = parents.len() - 1;
+        while parent > 0 && chance.below(2) == 0 {
+            parent = parents[parent];
+        }
+        parents.push(parent);
+    }
+    parents.iter().flat_map(|parent| node(1 + chance.below(labels) as u8, *parent)).collect()
+}
+
+/// The greatest rolls: one chain, and all under one root.
+pub fn chain() -> Vec<u8> {
+    (0..4096).flat_map(|i: usize| node(1, i.checked_sub(1).unwrap_or(NO_PARENT))).collect()
+}
+
+pub fn wide() -> Vec<u8> {
+    (0..4096).flat_map(|i: usize| node(1, if i == 0 { NO_PARENT } else { 0 })).collect()
 }
