@@ -1,4 +1,4 @@
-//! The calls of the proved library, as safe functions. Nothing checks these declarations against the library's source: keep them few.
+//! The calls of the proved library and the probe, as safe functions. Nothing checks these declarations against the source: keep them few.
 
 use second::Reply;
 
@@ -15,6 +15,7 @@ extern "C" {
         told: *mut usize,
     ) -> u64;
     fn kepolas_run_of(roll: *const u8, roll_len: usize, record: usize, start: *mut usize, end: *mut usize);
+    fn probe_check_query(query: *const u8, query_len: usize, told: *mut usize) -> u64;
 }
 
 /// What a number holds before a call tells something there.
@@ -56,4 +57,10 @@ pub fn run_of_record(roll: &[u8], record: usize) -> &[u8] {
     // SAFETY: as above.
     unsafe { kepolas_run_of(roll.as_ptr(), roll.len(), record, &mut start, &mut end) };
     &roll[start..end]
+}
+
+/// The check of a query table that is to be answered on a roll: no call of document 01, but a part of call 3.
+pub fn check_query(query: &[u8]) -> Reply {
+    // SAFETY: as above.
+    heard(|told| unsafe { probe_check_query(query.as_ptr(), query.len(), told) })
 }

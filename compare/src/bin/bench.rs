@@ -1,55 +1,39 @@
 //! How long the proved library takes, beside the second program, on the same inputs in one run. Times are for release builds and say
-//! nothing in others.
+//! nothing in others. Nothing is cleared between two runs of one input.
 
 use std::hint::black_box;
 use std::time::Instant;
 
-/// The shortest of several rounds, in nanoseconds for each byte.
-fn for_each_byte(bytes: usize, mut work: impl FnMut()) -> f64 {
-    let round = |work: &mut dyn FnMut()| {
-        let start = Instant::now();
-        for _ in 0..200 {
-            work();
-        }
-        start.elapsed().as_nanos() as f64 / 200.0 / bytes as f64
-    };
-    (0..15).map(|_| round(&mut work)).fold(f64::INFINITY, f64::min)
-}
+use second::table::{read_query, QUERY_ON_ROLL};
+use second::Reply;
 
-fn texts() {
-    let cut = |unit: &str, join: &str, length: usize| {
-        let mut text = unit.to_string();
-        while text.len() + join.len() + unit.len() <= length {
-            text = format!("{text}{join}{unit}");
-        }
-        text.into_bytes()
-    };
-    let deep = format!("{}v{}", "(".repeat(32), ")".repeat(32));
-    let labels = |length: usize| cut("[#64&#10+#7]", "/", length);
-    // A text that is read pays for the check of its table too; one that is refused with 16 for its size does not.
-    println!("{:<34}{:>8}{:>10}{:>12}{:>12}{:>8}", "reading a text", "bytes", "reply", "proved", "second", "ratio");
-    for length in [64, 256, 1024] {
-        let shapes = [
-            ("a long sequence", cut("v", "/", length)),
-            ("stars", [b"v".to_vec(), b"*".repeat(length - 1)].concat()),
-            ("32 brackets deep, again and again", cut(&deep, "|", length.max(deep.len()))),
-            ("labels", labels(length)),
-        ];
-        for (name, text) in shapes {
-            let mut room = [0u8; 1536];
-            let proved = for_each_byte(text.len(), || {
-                black_box(compare::read_text(black_box(&text), &mut room));
-            });
-            let second = for_each_byte(text.len(), || {
-                black_box(second::read_text(black_box(&text), &mut room));
-            });
-            let reply = compare::read_text(&text, &mut room).to_string();
-            println!("{name:<34}{:>8}{reply:>10}{proved:>10.2}ns{second:>10.2}ns{:>8.2}", text.len(), proved / second);
-        }
+/// The shortest of several rounds of each, in turn, in nanoseconds for each unit of the input.
+fn for_each_unit<A, B>(units: usize, mut proved: impl FnMut() -> A, mut second: impl FnMut() -> B) -> (f64, f64) {
+    let mut least = (f64::INFINITY, f64::INFINITY);
+    for _ in 0..40 {
+        least = (least.0.min(round(units, &mut proved)), least.1.min(round(units, &mut second)));
     }
+    least
 }
 
-fn rolls() {
+fn round<A>(units: usize, work: &mut impl FnMut() -> A) -> f64 {
+    let start = Instant::now();
+    for _ in 0..100 {
+        black_box(work());
+    }
+    start.elapsed().as_nanos() as f64 / 100.0 / units as f64
+}
+
+fn head(work: &str, size: &str) {
+    println!("{work:<38}{size:>8}{:>10}{:>12}{:>12}{:>8}", "reply", "proved", "second", "ratio");
+}
+
+fn line(name: &str, size: usize, reply: Reply, (proved, second): (f64, f64)) {
+    let reply = reply.to_string();
+    println!("{name:<38}{size:>8}{reply:>10}{proved:>10.2}ns{second:>10.2}ns{:>8.2}", proved / second);
+}
+
+fn checking_rolls() {
     let node = |i: usize, parent: usize| {
         let parent = if i == 0 { 65_535 } else { parent };
         [1u8, 0, (parent % 256) as u8, (parent / 256) as u8]
@@ -57,19 +41,115 @@ fn rolls() {
     let chain: Vec<u8> = (0..4096).flat_map(|i| node(i, i.wrapping_sub(1))).collect();
     let wide: Vec<u8> = (0..4096).flat_map(|i| node(i, 0)).collect();
     let comb: Vec<u8> = (0..4096).flat_map(|i| node(i, if i % 2 == 0 { i.saturating_sub(2) } else { i - 1 })).collect();
-    println!("{:<34}{:>8}{:>12}{:>12}{:>8}", "checking a roll", "bytes", "proved", "second", "ratio");
+    head("checking a roll, for each byte", "bytes");
     for (name, roll) in [("one chain", chain), ("all under one root", wide), ("a comb", comb)] {
-        let proved = for_each_byte(roll.len(), || {
-            black_box(compare::check_roll(black_box(&roll)));
-        });
-        let second = for_each_byte(roll.len(), || {
-            black_box(second::check_roll(black_box(&roll)));
-        });
-        println!("{name:<34}{:>8}{proved:>10.2}ns{second:>10.2}ns{:>8.2}", roll.len(), proved / second);
+        let proved = || compare::check_roll(black_box(&roll));
+        let second = || second::check_roll(black_box(&roll));
+        line(name, roll.len(), compare::check_roll(&roll), for_each_unit(roll.len(), proved, second));
     }
 }
 
+fn read(text: &[u8]) -> Reply {
+    compare::read_text(text, &mut [0; 1536])
+}
+
+fn accepted(text: &[u8]) -> bool {
+    matches!(read(text), Reply::Count(_))
+}
+
+/// The longest text of these units, joined, that has at most so many bytes and is read.
+fn longest(unit: &str, joint: &str, bytes: usize) -> Vec<u8> {
+    let mut text = unit.as_bytes().to_vec();
+    loop {
+        let longer = [&text, joint.as_bytes(), unit.as_bytes()].concat();
+        if longer.len() > bytes || !accepted(&longer) {
+            return text;
+        }
+        text = longer;
+    }
+}
+
+/// Texts that are read, of several shapes: as long as their tables' limits, or so many bytes, allow.
+fn shapes(bytes: usize) -> Vec<(&'static str, Vec<u8>)> {
+    let nested = |open: &str, close: &str, times: usize| format!("{}v{}", open.repeat(times), close.repeat(times));
+    vec![
+        ("sequences", longest(&["v"; 16].join("/"), "|", bytes)),
+        ("labels", longest(&["[#64&#10+#7]"; 4].join("/"), "|", bytes)),
+        ("stars", longest(&format!("v{}", "*".repeat(15)), "|", bytes)),
+        ("round brackets, 32 deep", longest(&nested("(", ")", 32), "|", bytes)),
+        ("square brackets, 7 deep", longest(&nested("[", "]", 7), "|", bytes)),
+        ("curly brackets, 32 deep", longest(&format!("[{}]", nested("{", "}", 31)), "|", bytes)),
+        ("nots, 15 in a row", longest(&format!("[{}t]", "!".repeat(15)), "|", bytes)),
+        ("v/[!v/[#4]]", longest("v/[!v/[#4]]", "|", bytes)),
+    ]
+}
+
+fn time_reading(text: &[u8]) -> (f64, f64) {
+    let (mut ours, mut theirs) = ([0u8; 1536], [0u8; 1536]);
+    let proved = || compare::read_text(black_box(text), &mut ours);
+    let second = || second::read_text(black_box(text), &mut theirs);
+    for_each_unit(text.len(), proved, second)
+}
+
+fn reading_texts() {
+    head("reading a text, for each byte", "bytes");
+    let short = ["v", "v/v", "v*/[#5]"].map(|text| (text, text.as_bytes().to_vec())).to_vec();
+    let mut seen = Vec::new();
+    let mut slowest = 0.0f64;
+    for (name, text) in short.into_iter().chain(shapes(64)).chain(shapes(256)).chain(shapes(1024)) {
+        if seen.contains(&text) {
+            continue;
+        }
+        let times = time_reading(&text);
+        slowest = slowest.max(times.0 / times.1);
+        line(name, text.len(), read(&text), times);
+        seen.push(text);
+    }
+    println!("the slowest of these: {slowest:.2} of the second program's time");
+    head("reading a text that is refused", "bytes");
+    let refused = [["v"; 512].join("/"), "(".repeat(1024), format!("{}/", ["v"; 512].join("|"))];
+    for text in refused {
+        line(&format!("{}..", &text[..8]), text.len(), read(text.as_bytes()), time_reading(text.as_bytes()));
+    }
+}
+
+/// A table of stars upon stars, or of steps that are joined one by one, as high as it may be and begun anew.
+fn tall(entries: usize, joined: bool) -> Vec<u8> {
+    let child = [2, 0, 0, 0, 0, 0];
+    let over = |kind: u8, left: usize, right: usize| {
+        [kind, 0, (left % 256) as u8, (left / 256) as u8, (right % 256) as u8, (right / 256) as u8]
+    };
+    let entry = |i: usize| match (i % if joined { 255 } else { 128 }, joined) {
+        (0, _) => child,
+        (_, false) => over(9, i - 1, 0),
+        (place, true) if place % 2 == 1 => child,
+        (_, true) => over(7, i - 2, i - 1),
+    };
+    (0..entries).flat_map(entry).collect()
+}
+
+fn checking_tables() {
+    head("checking a query table, for each entry", "entries");
+    let of_texts = shapes(256).into_iter().filter_map(|(name, text)| {
+        let mut room = vec![0; 1536];
+        let Reply::Count(entries) = compare::read_text(&text, &mut room) else { return None };
+        room.truncate(6 * entries);
+        (entries > 16).then_some((name, room))
+    });
+    let greatest = [("stars, 128 high", tall(1024, false)), ("sequences, 128 high", tall(1020, true))];
+    let mut slowest = 0.0f64;
+    for (name, table) in of_texts.chain(greatest) {
+        let proved = || compare::check_query(black_box(&table));
+        let second = || read_query(black_box(&table), QUERY_ON_ROLL);
+        let times = for_each_unit(table.len() / 6, proved, second);
+        slowest = slowest.max(times.0);
+        line(name, table.len() / 6, compare::check_query(&table), times);
+    }
+    println!("the slowest of these: {slowest:.2} ns for each entry");
+}
+
 fn main() {
-    rolls();
-    texts();
+    checking_rolls();
+    reading_texts();
+    checking_tables();
 }

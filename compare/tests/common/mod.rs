@@ -1,4 +1,4 @@
-//! Chance with a fixed seed, bytes in hex, and rolls.
+//! Chance with a fixed seed, bytes in hex, and records.
 #![allow(dead_code)]
 
 /// What rooms hold before a call.
@@ -52,6 +52,13 @@ pub fn grown_roll(chance: &mut Chance, size: usize, labels: usize) -> Vec<u8> {
         parents.push(parent);
     }
     parents.iter().flat_map(|parent| node(1 + chance.below(labels) as u8, *parent)).collect()
+}
+
+/// The record of a query entry.
+pub fn entry(kind: u8, label: u8, left: usize, right: usize) -> [u8; 6] {
+    let low = |number: usize| (number % 256) as u8;
+    let high = |number: usize| (number / 256) as u8;
+    [kind, label, low(left), high(left), low(right), high(right)]
 }
 
 /// The greatest rolls: one chain, and all under one root.

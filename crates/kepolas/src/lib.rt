@@ -14,7 +14,7 @@ ghost use Rattle.answer.specs.Promise.{Answered};
 ghost use Rattle.kepolas.specs.Told.{heard, Tells};
 
 // Tells a reply.
-fn tell(reply: Reply, told: &mut usize) -> u64
+pub fn tell(reply: Reply, told: &mut usize) -> u64
     ensures { λ r. ⌜ heard r (now (told .exit)) ≡ said reply ⌝ }
 {
     match reply {
