@@ -1,6 +1,10 @@
 //! How long the proved library takes, beside the second program, on the same inputs in one run. Times are for release builds and say
 //! nothing in others. Nothing is cleared between two runs of one input.
 
+mod answers;
+mod rolls;
+mod stack;
+
 use std::hint::black_box;
 use std::time::Instant;
 
@@ -152,4 +156,8 @@ fn main() {
     checking_rolls();
     reading_texts();
     checking_tables();
+    answers::answering();
+    answers::rewritten();
+    answers::shared();
+    stack::stack();
 }
