@@ -22,9 +22,9 @@ fn wide(size: usize) -> Vec<u8> {
 }
 
 /// The parent of a record is the one before it, or above that one by chance.
-fn random(size: usize) -> Vec<u8> {
+fn random(size: usize, seed: u64) -> Vec<u8> {
     let mut parents = vec![NO_PARENT];
-    let mut chance = 0x5eed_u64;
+    let mut chance = seed;
     while parents.len() < size {
         let mut parent = parents.len() - 1;
         loop {
@@ -67,7 +67,7 @@ fn court(size: usize) -> Vec<u8> {
     bytes(nodes.into_iter().take(size))
 }
 
-/// Each shape with as many nodes.
-pub fn shapes(size: usize) -> [(&'static str, Vec<u8>); 4] {
-    [("one chain", chain(size)), ("one root", wide(size)), ("court", court(size)), ("random", random(size))]
+/// Each shape with as many nodes; the seed tells random rolls apart.
+pub fn shapes(size: usize, seed: u64) -> [(&'static str, Vec<u8>); 4] {
+    [("one chain", chain(size)), ("one root", wide(size)), ("court", court(size)), ("random", random(size, seed))]
 }
