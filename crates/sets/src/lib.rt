@@ -12,5 +12,5 @@ pub use merge::common;
 pub use merge::difference;
 pub use merge::union;
 pub use test::count;
+pub use test::has;
 pub use test::is_empty;
-pub use test::member;

@@ -1,20 +1,11 @@
 // What is asked of a set.
 ghost use mathlib.Core.Path.{_≡_};
 ghost use mathlib.Core.Logic.{_↔_};
-ghost use Prim.Native.Nat.{ℕ, _<_};
+ghost use Prim.Native.Nat.{ℕ, _*_, _<_};
 ghost use lib.Dec.{T};
+ghost use lib.ListN.{length};
 ghost use Rattle.sets.specs.Bits.{ones};
 ghost use Rattle.sets.specs.Sets.{In};
-
-// Whether k is in the set.
-pub fn member(set: &[u64; 64], k: usize) -> bool
-    requires { ⌜ k < 4096 ⌝ }
-    ensures { λ r. ⌜ T r ↔ In (now (set .entry)) k ⌝ }
-{
-    let words: &[u64] = set;
-    let word = words[k / 64];
-    (word >> (k % 64)) % 2 == 1
-}
 
 pub fn is_empty(a: [u64; 64]) -> bool
     ensures { λ r. ⌜ T r ↔ ((k : ℕ) → ¬ In a k) ⌝ }
@@ -39,4 +30,12 @@ pub fn count(a: [u64; 64]) -> usize
         i += 1;
     }
     n
+}
+
+// Whether k is in a set. It takes any number of words, since sets may stand behind each other in one list.
+pub fn has(words: &[u64], k: usize) -> bool
+    requires { ⌜ k < 64 * length (now words) ⌝ }
+    ensures { λ r. ⌜ T r ↔ In (now (words .entry)) k ⌝ }
+{
+    (words[k / 64] >> (k % 64)) % 2 == 1
 }

@@ -3,7 +3,7 @@
 use crate::axis::Axis;
 use crate::reach::add_reached;
 use roll::count;
-use sets::member;
+use sets::has;
 ghost use mathlib.Core.Path.{_≡_};
 ghost use mathlib.Core.Bool.{true, false};
 ghost use Prim.Native.Nat.{ℕ, _+_, _≤_, _<_};
@@ -48,7 +48,8 @@ fn go_on(
     requires { ⌜ i < 4096 ⌝ }
     ensures { λ _. ⌜ Added (λ j. In (now (set .entry)) i × Along (nodes (now (roll .entry))) axis i j) (now (set .entry)) (now (set .exit)) ⌝ }
 {
-    if member(set, i) {
+    let words: &[u64] = set;
+    if has(words, i) {
         add_reached(roll, next, previous, axis, i, set);
     }
 }
