@@ -1,0 +1,4 @@
+pub mod Indexing
+pub mod Answering
+pub mod Showing
+pub mod Deciding

@@ -1,0 +1,47 @@
+// The answers of the records' filters on the whole roll.
+use checks::annotation;
+use checks::annotation::record_at;
+use evaluator::narrow;
+use roll::count;
+use sets::below;
+ghost use Prim.Native.Nat.{_<_};
+ghost use Rattle.view.specs.Promise.{Annotated};
+ghost use Rattle.evaluator.specs.Evaluator.{Grounds};
+ghost use Rattle.visible.specs.Answers.{Answered, Stored};
+
+// Puts a set into the words of record r.
+fn store(answers: &mut [u64; 2048], r: usize, set: [u64; 64])
+    requires { ⌜ r < 32 ⌝ }
+    ensures { λ _. ⌜ Stored r 64 set (now (answers .entry)) (now (answers .exit)) ⌝ }
+{
+    let words: &mut [u64] = answers;
+    let mut w = 0;
+    while w < 64 {
+        words[64 * r + w] = set[w];
+        w += 1;
+    }
+}
+
+// Each record's filter is asked of all nodes, once.
+pub(crate) fn answer(
+    roll: &[u8],
+    annotation: &[u8],
+    filters: &[u8],
+    next: &[u16; 4096],
+    previous: &[u16; 4096],
+) -> [u64; 2048]
+    requires { ⌜ Grounds (now roll) (now filters) (now next) (now previous) × Annotated (now annotation) (now filters) ⌝ }
+    ensures { λ r. ⌜ Answered (now (roll .entry)) (now (annotation .entry)) (now (filters .entry)) r ⌝ }
+{
+    let all = below(count(roll));
+    let n = annotation::count(annotation);
+    let mut answers = [0u64; 2048];
+    let mut r = 0;
+    while r < n {
+        let own = record_at(annotation, r);
+        let held = narrow(roll, next, previous, filters, own.filter, all);
+        store(&mut answers, r, held);
+        r += 1;
+    }
+    answers
+}
