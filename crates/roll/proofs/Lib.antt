@@ -4,3 +4,4 @@ pub mod Records
 pub mod Climbing
 pub mod Checking
 pub mod Parts
+pub mod Back

@@ -5,3 +5,4 @@ pub mod Order
 pub mod Deciding
 pub mod Cutting
 pub mod Unique
+pub mod Accepted

@@ -28,6 +28,12 @@ module _ {Seen : ℕ → Type 0} where
       further n b upto c (seen {k = d} s z) = le-step (upto d z)
       further n b upto c (hidden g z) = upto c z
 
+  -- of i nodes at most i are visible
+  pub before-most : {i k : ℕ} → Before Seen i k → k ≤ i
+  before-most start = le-refl 0
+  before-most (seen s x) = let h = before-most x in omega arith
+  before-most (hidden g x) = let h = before-most x in omega arith
+
   -- a visible node is counted behind it
   pub before-counts : {i j k l : ℕ} → i < j → Position Seen i k → Before Seen j l → k < l
   before-counts h x y = before-monotone h (seen (x .visible) (x .before)) y
