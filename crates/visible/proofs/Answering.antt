@@ -15,6 +15,7 @@ use Rattle.query.specs.Table.{entries, filterAt}
 use Rattle.view.specs.Annotation.{records, recordAt}
 use Rattle.sets.specs.Sets.{In, Holds, Narrowed}
 use Rattle.sets.proofs.Words.{in-word}
+use Rattle.visible.specs.Index.{FirstNamed}
 use Rattle.visible.specs.Answers.{HoldsAt, AnswersTo, Stored}
 
 -- a word more of the set
@@ -57,14 +58,26 @@ module _ {r : ℕ} {own before after : List ℕ} (stored : Stored r 64 own befor
 module _ {roll annotation filters : Bytes} where
   -- with no record passed there is nothing to answer
   pub answers-none : {answers : List ℕ} → AnswersTo roll annotation filters 0 answers
-  answers-none = record { answer = λ r i h l. absurd (omega arith) }
+  answers-none = record { answer = λ r i h first l. absurd (omega arith) }
+
+  -- a record that is not the first to name its filter is not answered
+  pub answers-same : {r s : ℕ} {answers : List ℕ} → FirstNamed annotation r s → ¬ (s ≡ r) → AnswersTo roll annotation filters r answers
+      → AnswersTo roll annotation filters (r + 1) answers
+  answers-same {r} {s} named apart so-far =
+      let early = named .known in
+      record { answer = λ k i h first l. so-far .answer k i (earlier k h first) first l }
+    where
+      earlier : (k : ℕ) → k < r + 1 → FirstNamed annotation k k → k < r
+      earlier k h first =
+          let not-r : ¬ (k ≡ r) = λ e. first .first s (omega (arith, named .known)) (rw e (named .same)) in
+          omega arith
 
   -- the answer of record r is stored: its filter narrowed the set of all nodes
   pub answers-more : {r : ℕ} {all own before after : List ℕ} → Holds (λ k. k < length (nodes roll)) all
       → Narrowed (holds (nodes roll) (filterAt (entries filters) (recordAt (records annotation) r .filter))) all own
       → Stored r 64 own before after → AnswersTo roll annotation filters r before → AnswersTo roll annotation filters (r + 1) after
   answers-more {r} {all} {own} {before} {after} every narrowed stored so-far =
-      record { answer = λ s i h l. answer s i h l (ℕ-discrete s r) }
+      record { answer = λ s i h first l. answer s i h first l (ℕ-discrete s r) }
     where
       held : (i : ℕ) → In own i ↔ HoldsAt roll annotation filters r i
       held i = Iff·trans (narrowed .exact i) (
@@ -72,6 +85,7 @@ module _ {roll annotation filters : Bytes} where
         λ x. (every .exact i .1 (x .node), x .filter),
       )
 
-      answer : (s i : ℕ) → s < r + 1 → i < 4096 → Dec (s ≡ r) → In after (4096 * s + i) ↔ HoldsAt roll annotation filters s i
-      answer s i h l (yes e) = rw e (Iff·trans (own-bits stored i l) (held i))
-      answer s i h l (no apart) = Iff·trans (other-bits stored s i l apart) (so-far .answer s i (omega arith) l)
+      answer : (s i : ℕ) → s < r + 1 → FirstNamed annotation s s → i < 4096 → Dec (s ≡ r)
+          → In after (4096 * s + i) ↔ HoldsAt roll annotation filters s i
+      answer s i h first l (yes e) = rw e (Iff·trans (own-bits stored i l) (held i))
+      answer s i h first l (no apart) = Iff·trans (other-bits stored s i l apart) (so-far .answer s i (omega arith) first l)

@@ -1,8 +1,8 @@
 -- With the index of the annotation and the answers of its filters, who is shown is who is visible. Assumes nothing.
-use Prim.Native.Nat.{ℕ, zero, suc, _<_}
+use Prim.Native.Nat.{ℕ, zero, suc, _+_, _*_, _<_}
 use native.Mathlib.Omega.{arith}
 use mathlib.Core.Path.{_≡_, refl, sym, subst}
-use mathlib.Core.Logic.{⊎-elim}
+use mathlib.Core.Logic.{_↔_, ⊎-elim}
 use mathlib.Core.List.{List, [], _∷_, map, List·Memᴰ, List·Memᴰ·head, List·Memᴰ·tail, List·Memᴰ·not-nil, List·Memᴰ·cases-cons}
 use lib.ListN.{length, getD}
 use Rattle.reply.specs.Bytes.{Bytes}
@@ -17,12 +17,12 @@ use Rattle.view.specs.Annotation.{records, recordAt, Rule, rules}
 use Rattle.view.specs.Visible as visible
 use Rattle.view.specs.Visible.{Ruled, Visible, shown, inherits}
 use Rattle.view.specs.Promise.{Seen, Annotated}
-use Rattle.sets.specs.Sets.{Holds}
-use Rattle.visible.specs.Index.{HasPair, Row, none, at, Indexed}
+use Rattle.sets.specs.Sets.{In, Holds}
+use Rattle.visible.specs.Index.{HasPair, FirstNamed, Row, none, at, Indexed}
 use Rattle.visible.specs.Answers.{Answered}
 use Rattle.visible.specs.Shown as told
 use Rattle.visible.specs.Shown.{rowOf, Shown, answered, inherited}
-use Rattle.visible.proofs.Indexing.{pair-one}
+use Rattle.visible.proofs.Indexing.{first-itself, pair-one}
 
 -- what is a member of a list that a function made stands somewhere in it
 mapped-at : {A B : Type 0} (f : A → B) (d : A) (l : List A) {b : B} → List·Memᴰ b (map f l)
@@ -80,40 +80,48 @@ module _ {roll annotation filters : Bytes} {index answers : List ℕ} (r : Roll 
   -- a row that is 0: no filter rules the pair
   unruled : {p c v : ℕ} → v ≡ 0 → Row annotation (length (records annotation)) p c v → (f : Filter) → ¬ Ruled given p c f
   unruled e (none not-there) f m = let (s, l, x, same) = ruled-has (entries filters) annotation m in not-there s l x
-  unruled e (at l x) f m = absurd (omega arith)
+  unruled e (at l x named) f m = absurd (omega arith)
 
-  -- any other is one more than the number of the record
-  named : {p c v s : ℕ} → v ≡ suc s → Row annotation (length (records annotation)) p c v
-      → (s < length (records annotation)) × HasPair annotation p c s
-  named e (none not-there) = absurd (omega arith)
-  named {s = s} e (at {r = q} l x) = let same : q ≡ s = omega arith in rw (← same) (l, x)
+  -- any other leads to a record that answers for the pair's
+  led : {p c v s : ℕ} → v ≡ suc s → Row annotation (length (records annotation)) p c v
+      → (q : ℕ) × (q < length (records annotation)) × HasPair annotation p c q × FirstNamed annotation q s
+  led e (none not-there) = absurd (omega arith)
+  led {s = s} e (at {r = q} {s = k} l x named) = let same : k ≡ s = omega arith in (q, l, x, rw same at named)
 
-  -- the answers are on all nodes
-  within : {p i : ℕ} → Child t p i → i < 4096
-  within c = let node = c .node in omega (arith, roll-most r)
+  -- the first record that names a filter answers for every record that names it
+  answers-for : {q s p i : ℕ} → q < length (records annotation) → FirstNamed annotation q s → Child t p i
+      → In answers (4096 * s + i) ↔ holds t (filterAt (entries filters) (recordAt (records annotation) q .filter)) i
+  answers-for {q} {s} {p} {i} l named c =
+      let node = c .node in
+      let low : i < 4096 = omega (arith, roll-most r) in
+      let known = named .known in
+      let told = answer .answer s i (omega arith) (first-itself named) low in (
+        λ m. rw (named .same) at (told .0 m .filter),
+        λ h. told .1 (record { node = node; filter = rw (named .same) h }),
+      )
 
   -- a node that is shown is visible
   to-visible : {i : ℕ} → Shown t index answers i → Visible t given i
   to-visible told.root = visible.root
-  to-visible (answered {i = i} {r = s} c e m) =
-      let (l, x) = named e (pair-row c) in
-      shown c (has-ruled (entries filters) annotation l x) (answer .answer s i l (within c) .0 m .filter)
+  to-visible (answered c e m) =
+      let (q, l, x, named) = led e (pair-row c) in
+      shown c (has-ruled (entries filters) annotation l x) (answers-for l named c .0 m)
   to-visible (inherited c e s) = inherits c (unruled e (pair-row c)) (to-visible s)
 
   -- a node whose pair has a record is answered for by that record
   ruled-shown : {p i v : ℕ} {f : Filter} → Child t p i → rowOf t index p i ≡ v → RowOf annotation t p i v
       → RuledBy given t p i f → holds t f i → Shown t index answers i
   ruled-shown c e (none not-there) m h = let (s, l, x, same) = ruled-has (entries filters) annotation m in absurd (not-there s l x)
-  ruled-shown {i = i} c e (at {r = q} k y) m h =
+  ruled-shown c e (at {r = q} k y named) m h =
       let (s, l, x, same) = ruled-has (entries filters) annotation m in
       let one : s ≡ q = pair-one (a .records) l k x y in
-      answered c e (answer .answer q i k (within c) .1 (record { node = c .node; filter = rw (← one, ← same) h }))
+      answered c e (answers-for k named c .1 (rw (← one, ← same) h))
 
   -- one whose pair has none is shown as its parent is
   unruled-shown : {p i v : ℕ} → Child t p i → rowOf t index p i ≡ v → RowOf annotation t p i v
       → ((f : Filter) → ¬ RuledBy given t p i f) → Shown t index answers p → Shown t index answers i
   unruled-shown c e (none not-there) free s = inherited c e s
-  unruled-shown c e (at l x) free s = absurd (free _ (has-ruled (entries filters) annotation l x))
+  unruled-shown c e (at l x named) free s = absurd (free _ (has-ruled (entries filters) annotation l x))
 
   -- so a visible node is shown
   from-visible : {i : ℕ} → Visible t given i → Shown t index answers i

@@ -1,10 +1,10 @@
 -- The index of an annotation is filled in record by record; and no two records have one pair, since pairs ascend. Assumes nothing.
 use Prim.Native.Nat.{ℕ, zero, suc, _+_, _≤_, _<_}
-use native.Mathlib.Nat.{eq-or-lt-of-le, le-of-suc-le-suc}
+use native.Mathlib.Nat.{le-refl, eq-or-lt-of-le, le-of-suc-le-suc}
 use native.Mathlib.Decide.{ℕ-discrete}
 use native.Mathlib.Numerals.{add-one}
 use native.Mathlib.Omega.{arith}
-use mathlib.Core.Path.{_≡_, sym, ap₂, _∙_}
+use mathlib.Core.Path.{_≡_, refl, sym, ap₂, _∙_}
 use mathlib.Core.Logic.{⊎-elim}
 use mathlib.Core.List.{List}
 use lib.ListN.{length, getD, set}
@@ -16,13 +16,17 @@ use Rattle.query.specs.Table.{Entries}
 use Rattle.query.proofs.Tables.{entries-length}
 use Rattle.view.specs.Annotation.{records, recordAt, Ascends, AboveLast, Annotation}
 use Rattle.checks.proofs.Records.{records-length}
-use Rattle.visible.specs.Index.{pairOf, HasPair, Row, none, at, IndexTo, Labelled}
+use Rattle.visible.specs.Index.{pairOf, HasPair, FirstNamed, Row, none, at, IndexTo, Labelled}
 
 -- two pairs of labels have two places
 pair-apart : {p q c d : ℕ} → Label c → Label d → pairOf p c ≡ pairOf q d → (p ≡ q) × (c ≡ d)
 pair-apart l m e = (omega arith, omega arith)
 
 module _ {annotation : Bytes} where
+  -- the first record that names a filter is the first that names its own
+  pub first-itself : {r s : ℕ} → FirstNamed annotation r s → FirstNamed annotation s s
+  first-itself {r} {s} named = record { known = le-refl s; same = refl; first = λ k l e. named .first k l (e ∙ named .same) }
+
   -- with no record passed, no pair has one
   pub index-none : {index : List ℕ} → ((k : ℕ) → getD index k 0 ≡ 0) → IndexTo annotation 0 index
   index-none empty = record {
@@ -31,31 +35,31 @@ module _ {annotation : Bytes} where
   }
 
   -- record r is put at the place of its pair
-  pub index-more : {index : List ℕ} {p c r : ℕ} → length index ≡ 4225 → Label p → Label c → HasPair annotation p c r
-      → IndexTo annotation r index → IndexTo annotation (r + 1) (set index (pairOf p c) (r + 1))
-  index-more {index} {p} {c} {r} size l m has so-far = record {
+  pub index-more : {index : List ℕ} {p c r s : ℕ} → length index ≡ 4225 → Label p → Label c → HasPair annotation p c r
+      → FirstNamed annotation r s → IndexTo annotation r index → IndexTo annotation (r + 1) (set index (pairOf p c) (s + 1))
+  index-more {index} {p} {c} {r} {s} size l m has named so-far = record {
     row = λ q d k n. row q d k n (ℕ-discrete (pairOf q d) (pairOf p c));
     most = λ k. most k (ℕ-discrete k (pairOf p c));
   }
     where
       later : {q d v : ℕ} → ¬ HasPair annotation q d r → Row annotation r q d v → Row annotation (r + 1) q d v
       later not-r (none f) = none (below-more (λ (s : ℕ). ¬ HasPair annotation _ _ s) r f not-r)
-      later not-r (at {r = s} h x) = at {r = s} (omega arith) x
+      later not-r (at {r = q} h x f) = at {r = q} (omega arith) x f
 
       another : {q d : ℕ} → ¬ (pairOf q d ≡ pairOf p c) → ¬ HasPair annotation q d r
       another apart x = apart (ap₂ pairOf (sym (x .parent) ∙ has .parent) (sym (x .child) ∙ has .child))
 
       row : (q d : ℕ) → Label q → Label d → Dec (pairOf q d ≡ pairOf p c)
-          → Row annotation (r + 1) q d (getD (set index (pairOf p c) (r + 1)) (pairOf q d) 0)
+          → Row annotation (r + 1) q d (getD (set index (pairOf p c) (s + 1)) (pairOf q d) 0)
       row q d k n (yes e) =
           let (e′, f) = pair-apart n m e in
-          rw (e, getD-set-same index (pairOf p c) (r + 1) 0 (omega arith), add-one r) (at {r = r} (omega arith) (rw (e′, f) has))
+          rw (e, getD-set-same index (pairOf p c) (s + 1) 0 (omega arith), add-one s) (at {r = r} (omega arith) (rw (e′, f) has) named)
       row q d k n (no apart) =
-          rw (getD-set-other index (pairOf p c) (pairOf q d) (r + 1) 0 apart) (later (another apart) (so-far .row q d k n))
+          rw (getD-set-other index (pairOf p c) (pairOf q d) (s + 1) 0 apart) (later (another apart) (so-far .row q d k n))
 
-      most : (k : ℕ) → Dec (k ≡ pairOf p c) → getD (set index (pairOf p c) (r + 1)) k 0 ≤ r + 1
-      most k (yes e) = rw (e, getD-set-same index (pairOf p c) (r + 1) 0 (omega arith)) (omega arith)
-      most k (no n) = rw (getD-set-other index (pairOf p c) k (r + 1) 0 n) (omega (arith, so-far .most k))
+      most : (k : ℕ) → Dec (k ≡ pairOf p c) → getD (set index (pairOf p c) (s + 1)) k 0 ≤ r + 1
+      most k (yes e) = rw (e, getD-set-same index (pairOf p c) (s + 1) 0 (omega arith)) (omega (arith, named .known))
+      most k (no n) = rw (getD-set-other index (pairOf p c) k (s + 1) 0 n) (omega (arith, so-far .most k))
 
   module _ {es : Entries} (a : Annotation es annotation) where
     -- the records of an annotation name labels

@@ -10,15 +10,16 @@ use Rattle.query.specs.Meaning.{holds}
 use Rattle.query.specs.Table.{entries, filterAt}
 use Rattle.view.specs.Annotation.{records, recordAt}
 use Rattle.sets.specs.Sets.{In}
+use Rattle.visible.specs.Index.{FirstNamed}
 
 -- the filter of record r holds at node i
 pub record HoldsAt (roll annotation filters : Bytes) (r i : ℕ) : Type 0 where
   pub node : i < length (nodes roll)
   pub filter : holds (nodes roll) (filterAt (entries filters) (recordAt (records annotation) r .filter)) i
 
--- the answers of the first n records
+-- the answers of those of the first n records that are the first to name their filter
 pub record AnswersTo (roll annotation filters : Bytes) (n : ℕ) (answers : List ℕ) : Type 0 where
-  pub answer : (r i : ℕ) → r < n → i < 4096 → In answers (4096 * r + i) ↔ HoldsAt roll annotation filters r i
+  pub answer : (r i : ℕ) → r < n → FirstNamed annotation r r → i < 4096 → In answers (4096 * r + i) ↔ HoldsAt roll annotation filters r i
 
 -- the answers of all
 abbrev pub Answered : Bytes → Bytes → Bytes → List ℕ → Type 0

@@ -1,4 +1,4 @@
--- The index of an annotation: for each pair of labels the record that it has.
+-- The index of an annotation: for each pair of labels the record that answers for it.
 use Prim.Native.Nat.{ℕ, suc, _+_, _*_, _≤_, _<_}
 use mathlib.Core.Path.{_≡_}
 use mathlib.Core.List.{List}
@@ -16,10 +16,17 @@ pub record HasPair (annotation : Bytes) (p c r : ℕ) : Type 0 where
   pub parent : recordAt (records annotation) r .parent ≡ p
   pub child : recordAt (records annotation) r .child ≡ c
 
--- what the index says of a pair, where the first n records are in it: 0 for no record, or a record's number and one more
+-- s is the first record that names the filter of record r
+pub record FirstNamed (annotation : Bytes) (r s : ℕ) : Type 0 where
+  pub known : s ≤ r
+  pub same : recordAt (records annotation) s .filter ≡ recordAt (records annotation) r .filter
+  pub first : (k : ℕ) → k < s → ¬ (recordAt (records annotation) k .filter ≡ recordAt (records annotation) r .filter)
+
+-- What the index says of a pair, where the first n records are in it: 0 for no record, else one more than the first record that names
+-- the filter of the pair's record.
 pub data Row (annotation : Bytes) (n parent child : ℕ) : ℕ → Type 0 where
   none : ((r : ℕ) → r < n → ¬ HasPair annotation parent child r) → Row annotation n parent child 0
-  at : {r : ℕ} → r < n → HasPair annotation parent child r → Row annotation n parent child (suc r)
+  at : {r s : ℕ} → r < n → HasPair annotation parent child r → FirstNamed annotation r s → Row annotation n parent child (suc s)
 
 pub record IndexTo (annotation : Bytes) (n : ℕ) (index : List ℕ) : Type 0 where
   pub row : (parent child : ℕ) → Label parent → Label child → Row annotation n parent child (getD index (pairOf parent child) 0)

@@ -1,13 +1,16 @@
 // The answers of the records' filters on the whole roll.
+use crate::index::first_named;
 use checks::annotation;
 use checks::annotation::record_at;
 use evaluator::narrow;
 use roll::count;
 use sets::below;
-ghost use Prim.Native.Nat.{_<_};
+ghost use Prim.Native.Nat.{_+_, _<_};
+ghost use lib.ListN.{length};
+ghost use Rattle.view.specs.Annotation.{records};
 ghost use Rattle.view.specs.Promise.{Annotated};
 ghost use Rattle.evaluator.specs.Evaluator.{Grounds};
-ghost use Rattle.visible.specs.Answers.{Answered, Stored};
+ghost use Rattle.visible.specs.Answers.{AnswersTo, Answered, Stored};
 
 // Puts a set into the words of record r.
 fn store(answers: &mut [u64; 2048], r: usize, set: [u64; 64])
@@ -22,7 +25,30 @@ fn store(answers: &mut [u64; 2048], r: usize, set: [u64; 64])
     }
 }
 
-// Each record's filter is asked of all nodes, once.
+// Answers record r, where it is the first to name its filter: the filter is asked of all nodes.
+fn answer_record(
+    roll: &[u8],
+    annotation: &[u8],
+    filters: &[u8],
+    next: &[u16; 4096],
+    previous: &[u16; 4096],
+    r: usize,
+    answers: &mut [u64; 2048],
+)
+    requires { ⌜ Grounds (now roll) (now filters) (now next) (now previous) × Annotated (now annotation) (now filters) ⌝ }
+    requires { ⌜ r < length (records (now annotation)) ⌝ }
+    requires { ⌜ AnswersTo (now roll) (now annotation) (now filters) r (now answers) ⌝ }
+    ensures { λ _. ⌜ AnswersTo (now (roll .entry)) (now (annotation .entry)) (now (filters .entry)) (r + 1) (now (answers .exit)) ⌝ }
+{
+    if first_named(annotation, r) == r {
+        let own = record_at(annotation, r);
+        let all = below(count(roll));
+        let held = narrow(roll, next, previous, filters, own.filter, all);
+        store(answers, r, held);
+    }
+}
+
+// Answers the records: each filter that one of them names is asked once.
 pub(crate) fn answer(
     roll: &[u8],
     annotation: &[u8],
@@ -33,14 +59,11 @@ pub(crate) fn answer(
     requires { ⌜ Grounds (now roll) (now filters) (now next) (now previous) × Annotated (now annotation) (now filters) ⌝ }
     ensures { λ r. ⌜ Answered (now (roll .entry)) (now (annotation .entry)) (now (filters .entry)) r ⌝ }
 {
-    let all = below(count(roll));
     let n = annotation::count(annotation);
     let mut answers = [0u64; 2048];
     let mut r = 0;
     while r < n {
-        let own = record_at(annotation, r);
-        let held = narrow(roll, next, previous, filters, own.filter, all);
-        store(&mut answers, r, held);
+        answer_record(roll, annotation, filters, next, previous, r, &mut answers);
         r += 1;
     }
     answers

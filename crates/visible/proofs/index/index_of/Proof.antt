@@ -9,7 +9,7 @@ use lib.ListN.{length, length-set, length-replicate}
 use Rattle.tree.specs.Tree.{Label}
 use Rattle.view.specs.Annotation.{records}
 use Rattle.sets.proofs.Words.{zeros}
-use Rattle.visible.specs.Index.{IndexTo}
+use Rattle.visible.specs.Index.{HasPair, IndexTo}
 use Rattle.visible.proofs.Indexing.{index-none, index-more}
 use Rattle.visible.proofs.index.index_of.Statement.{statement}
 use Rattle.visible.proofs.index.index_of.Tie as tie
@@ -40,27 +40,34 @@ labels c =
 pair-of-requires : tie.Need-pair-of-requires Inv-loop μ-loop
 pair-of-requires c κs = labels c
 
-add-r : tie.Need-add-r Inv-loop μ-loop
-add-r c = search needs
+first-named-requires : tie.Need-first-named-requires Inv-loop μ-loop
+first-named-requires c κs = search needs
+
+add-index : tie.Need-add-index Inv-loop μ-loop
+add-index c = omega (arith, c .first-named .ensures .known)
 
 cast-index : tie.Need-cast-index Inv-loop μ-loop
-cast-index c = search needs
+cast-index c = omega (arith, c .first-named .ensures .known)
 
 array-write-index : tie.Need-array-write-index Inv-loop μ-loop
-array-write-index c = let (parent, child) = labels (c .before) in omega arith
+array-write-index c = let (parent, child) = labels (c .before .before) in omega arith
+
+add-r : tie.Need-add-r Inv-loop μ-loop
+add-r c = search needs
 
 loop-less : tie.Need-loop-less Inv-loop μ-loop
 loop-less c = search needs
 
 loop-again : tie.Need-loop-again Inv-loop μ-loop
 loop-again c =
-    let turn = c .before .before .before in
-    let read = c .before .record-at .ensures in
-    let (parent, child) = labels (c .before) in
-    let (within, size, so-far) = turn .loop .inv in (
+    let placed = c .before in
+    let read = placed .before .record-at .ensures in
+    let (parent, child) = labels (placed .before) in
+    let (within, size, so-far) = placed .before .before .before .loop .inv in
+    let has : HasPair _ _ _ _ = record { parent = sym (read .parent); child = sym (read .child) } in (
       omega arith,
       simp length-set size,
-      rw (c .pair-of .ensures) (index-more size parent child (record { parent = sym (read .parent); child = sym (read .child) }) so-far),
+      rw (placed .pair-of .ensures) (index-more size parent child has (c .first-named .ensures) so-far),
     )
 
 returns : tie.Need-returns Inv-loop μ-loop
@@ -78,9 +85,11 @@ index-of-spec =
     loop-holds
     record-at-requires
     pair-of-requires
-    add-r
+    first-named-requires
+    add-index
     cast-index
     array-write-index
+    add-r
     loop-less
     loop-again
     returns)
