@@ -1,5 +1,6 @@
 -- "The view is itself a node table of the form above": what call 4 writes is a roll of as many nodes as it counts, so call 1 accepts it.
--- And view positions and visible nodes correspond one to one, in order. Assumes nothing.
+-- View positions and visible nodes correspond one to one, in order. And every roll has a view, which its table tells apart from any other.
+-- Assumes nothing.
 use Prim.Native.Nat.{ℕ, zero, suc, _*_, _≤_, _<_}
 use native.Mathlib.Omega.{arith}
 use mathlib.Core.Path.{_≡_, sym, ap, _∙_}
@@ -18,10 +19,11 @@ use Rattle.roll.proofs.Checking.{roll-counted}
 use Rattle.roll.proofs.Deciding.{roll-in-order, roll-root, roll-most}
 use Rattle.query.specs.Table.{entries}
 use Rattle.view.specs.Annotation.{rules}
-use Rattle.view.specs.Visible.{root}
+use Rattle.view.specs.Visible.{Visible, root}
 use Rattle.view.specs.View.{Position, View}
-use Rattle.view.specs.Promise.{Seen, ViewGiven, ViewCut}
-use Rattle.view.proofs.Deciding.{dec-visible}
+use Rattle.view.specs.Promise.{Seen, Annotated, ViewGiven, ViewCut}
+use Rattle.view.proofs.Deciding.{seen, seen-right, visible-node, dec-visible}
+use Rattle.view.proofs.Cutting.{cut-right}
 use Rattle.view.proofs.Positions.{before-most, position-unique, position-injective, position-order, position-exists}
 use Rattle.view.proofs.Carried.{view-node, view-position}
 use Rattle.view.proofs.Order.{view-root, view-in-order}
@@ -83,34 +85,61 @@ module _ {t : Tree} {Seen : ℕ → Type 0} (dec : (i : ℕ) → Dec (Seen i)) {
         }
 
 module _ (roll annotation filters : Bytes) where
-  -- who is visible on a roll is decided
-  dec-seen : Roll roll → (i : ℕ) → Dec (Seen roll annotation filters i)
-  unfolding Seen
-  dec-seen r = dec-visible (nodes roll) (rules (entries filters) annotation) (roll-in-order r) (roll-root r)
-
-  root-seen : Seen roll annotation filters 0
+  -- the root is visible
+  pub root-seen : Seen roll annotation filters 0
   unfolding Seen
   root-seen = root
 
+  module _ (r : Roll roll) where
+    -- who is visible on a roll is decided
+    pub dec-seen : (i : ℕ) → Dec (Seen roll annotation filters i)
+    unfolding Seen
+    dec-seen = dec-visible (nodes roll) (rules (entries filters) annotation) (roll-in-order r) (roll-root r)
+
+    -- a visible node is one of the roll's
+    pub seen-node : {i : ℕ} → Seen roll annotation filters i → i < length (nodes roll)
+    unfolding Seen
+    seen-node = visible-node (nodes roll) (rules (entries filters) annotation) (roll-in-order r) (roll-root r)
+
+    -- a roll has a view
+    pub view-exists : (v : Tree) × View (nodes roll) (Seen roll annotation filters) v
+    unfolding Seen
+    view-exists =
+        let t = nodes roll in
+        let given = rules (entries filters) annotation in
+        let o = roll-in-order r in
+        (_, cut-right t (seen t given) o (Visible t given) (seen-right t given o) root (roll-root r))
+
+    module _ {v : Tree} (view : View (nodes roll) (Seen roll annotation filters) v) where
+      labels-right : (i : ℕ) → i < length (nodes roll) → Label (labelAt (nodes roll) i)
+      labels-right i l = r .node i l .label
+
+      -- whose table is read back,
+      pub seen-view-back : nodes (nodeBytes v) ≡ v
+      seen-view-back = view-back dec-seen view (roll-in-order r) root-seen (roll-root r) (roll-most r) labels-right
+
+      -- and is a roll
+      pub seen-view-roll : Roll (nodeBytes v)
+      seen-view-roll = view-roll dec-seen view (roll-in-order r) root-seen (roll-root r) (roll-most r) labels-right
+
   module _ (before : Bytes) (c : ℕ) (after : Bytes) (cut : ViewCut roll annotation filters before (count c) after) where
-    -- what call 4 has written
-    cut-given : Roll roll × ViewGiven roll annotation filters before c after
+    -- where call 4 counts, its inputs are right, and it has written
+    pub cut-given : (Roll roll × Annotated annotation filters) × ViewGiven roll annotation filters before c after
     unfolding ViewCut
-    cut-given = elim cut [ done room right given ↦ (right .0, given) ]
+    cut-given = elim cut [ done room right given ↦ (right, given) ]
+
+    -- the view's table, which
+    pub cut-front : take (4 * c) after ≡ nodeBytes (cut-given .1 .view)
+    cut-front =
+        let given = cut-given .1 in
+        let bytes : length (nodeBytes (given .view)) ≡ 4 * c = omega (arith, node-bytes-length (given .view), given .count) in
+        ap (take (4 * c)) (given .written .bytes) ∙ take-at _ _ (4 * c) bytes
 
     -- is a roll of as many nodes as it has counted,
     pub view-cut-roll : Roll (take (4 * c) after) × (length (nodes (take (4 * c) after)) ≡ c)
     view-cut-roll =
-        let (r, given) = cut-given in
-        let v = given .view in
-        let o = roll-in-order r in
-        let labels : (i : ℕ) → i < length (nodes roll) → Label (labelAt (nodes roll) i) = λ i l. r .node i l .label in
-        let bytes : length (nodeBytes v) ≡ 4 * c = omega (arith, node-bytes-length v, given .count) in
-        let front : take (4 * c) after ≡ nodeBytes v = ap (take (4 * c)) (given .written .bytes) ∙ take-at _ _ (4 * c) bytes in
-        rw front (
-          view-roll (dec-seen r) (given .is) o root-seen (roll-root r) (roll-most r) labels,
-          ap length (view-back (dec-seen r) (given .is) o root-seen (roll-root r) (roll-most r) labels) ∙ sym (given .count),
-        )
+        let (right, given) = cut-given in
+        rw cut-front (seen-view-roll (right .0) (given .is), ap length (seen-view-back (right .0) (given .is)) ∙ sym (given .count))
 
     -- which call 1 accepts with the same count,
     pub view-cut-checked : RollChecked (take (4 * c) after) (count c)
@@ -120,4 +149,11 @@ module _ (roll annotation filters : Bytes) where
 
     -- and its positions correspond to the visible nodes
     pub view-cut-matched : OneToOne (length (nodes roll)) (Seen roll annotation filters) c
-    view-cut-matched = let (r, given) = cut-given in rw (given .count) (view-matched (dec-seen r) (given .is))
+    view-cut-matched = let (right, given) = cut-given in rw (given .count) (view-matched (dec-seen (right .0)) (given .is))
+
+-- "Two views are equal if their tables are equal byte by byte."
+pub same-table : (roll annotation filters roll′ annotation′ filters′ : Bytes) {v w : Tree} → Roll roll → Roll roll′
+    → View (nodes roll) (Seen roll annotation filters) v → View (nodes roll′) (Seen roll′ annotation′ filters′) w
+    → nodeBytes v ≡ nodeBytes w → v ≡ w
+same-table roll annotation filters roll′ annotation′ filters′ r r′ view view′ same =
+    sym (seen-view-back roll annotation filters r view) ∙ ap nodes same ∙ seen-view-back roll′ annotation′ filters′ r′ view′

@@ -80,3 +80,13 @@ module _ {Seen : ℕ → Type 0} where
     -- a visible node has a position
     pub position-exists : {i : ℕ} → Seen i → (k : ℕ) × Position Seen i k
     position-exists {i} s = ((before-exists i) .0, record { visible = s; before = (before-exists i) .1 })
+
+-- positions among one set of nodes are positions among any other that has the same nodes
+module _ {S R : ℕ → Type 0} (same : (i : ℕ) → S i ↔ R i) where
+  pub before-as : {i k : ℕ} → Before S i k → Before R i k
+  before-as start = start
+  before-as (seen {i = i} s x) = seen (same i .0 s) (before-as x)
+  before-as (hidden {i = i} h x) = hidden (λ r. h (same i .1 r)) (before-as x)
+
+  pub position-as : {i k : ℕ} → Position S i k → Position R i k
+  position-as {i} x = record { visible = same i .0 (x .visible); before = before-as (x .before) }
