@@ -1,4 +1,5 @@
--- An accepted query can be asked of one node of a roll, and what its last entry reaches from there is its answer. Assumes nothing.
+-- An accepted query can be asked of one node of a roll, and what its last entry reaches from there is its answer. A curator's query can be
+-- asked so too. Assumes nothing.
 use Prim.Native.Nat.{ℕ, _-_, _≤_, _<_}
 use native.Mathlib.Omega.{arith}
 use mathlib.Core.Path.{_≡_, refl, sym, ap, subst}
@@ -12,7 +13,7 @@ use Rattle.query.specs.Kind.{path}
 use Rattle.query.specs.Syntax.{Path}
 use Rattle.query.specs.Meaning.{reach}
 use Rattle.query.specs.Table.{entries, pathAt, queryOf, HasSort}
-use Rattle.query.specs.Fault.{Limits, last, Query}
+use Rattle.query.specs.Fault.{Limits, curators, answered, last, EntryFits, Query}
 use Rattle.query.proofs.Tables.{entries-length}
 use Rattle.sets.specs.Sets.{In, Holds, Image}
 use Rattle.links.specs.Links.{Siblings}
@@ -48,3 +49,12 @@ module _ {limit : Limits} {query : Bytes} (q : Query limit query) where
         λ p. a .exact j .1 (start, one .exact start .1 (inr refl), rw (← e) at p),
       );
     }
+
+-- what a curator may ask may be answered on a roll
+pub query-answered : {b : Bytes} → Query curators b → Query answered b
+unfolding last
+query-answered {b} q = record {
+  size = record { some = q .size .some; size = record { multiple = q .size .size .multiple; most = omega (arith, q .size .size .most) } };
+  entry = λ i l. let e : EntryFits curators b i = q .entry i l in record { right = e .right; low = omega (arith, e .low) };
+  path = q .path;
+}

@@ -1,11 +1,12 @@
--- A set's bytes, written in front of a room, are its bitmap there, and its ones are counted. Assumes nothing.
-use Prim.Native.Nat.{ℕ, _≤_, _<_, _^_}
+-- A set's bytes, written in front of a room, are its bitmap there, and its ones are counted. And what a room with a bitmap in front shows.
+-- Assumes nothing.
+use Prim.Native.Nat.{ℕ, _/_, _≤_, _<_, _^_}
 use native.Mathlib.Omega.{arith}
-use mathlib.Core.Path.{_≡_, refl, sym, _∙_, subst}
-use mathlib.Core.Logic.{Iff·trans}
+use mathlib.Core.Path.{_≡_, refl, sym, ap, _∙_, subst}
+use mathlib.Core.Logic.{_↔_, Iff·trans}
 use mathlib.Core.List.{List, _++_}
-use lib.ListN.{length, getD, take, drop}
-use lib.Seq.{take-length}
+use lib.ListN.{length, getD, take, drop, List·getD-append}
+use lib.Seq.{take-length, take-at}
 use mir.Val.{Fits}
 use mir.Syntax.{w8, w64}
 use Rattle.reply.specs.Reply.{Said, count}
@@ -55,3 +56,16 @@ given-as holds g =
         written = g .given .written;
       },
     )
+
+module _ {P : ℕ → Type 0} {before after : Bytes} {n : ℕ} (g : SetGiven P before n after) where
+  -- the bitmap stands in the first 512 bytes of the room
+  pub given-front : take 512 after ≡ g .map
+  given-front = ap (take 512) (g .written .bytes) ∙ take-at _ _ 512 (g .is .size)
+
+  -- so each of their bits tells whether its node is in the set
+  pub given-bit : (k : ℕ) → k < 4096 → (bit after k ≡ 1) ↔ P k
+  unfolding bit
+  given-bit k l =
+      let same : getD after (k / 8) 0 ≡ getD (g .map) (k / 8) 0 =
+      ap (λ (b : Bytes). getD b (k / 8) 0) (g .written .bytes) ∙ List·getD-append (g .map) _ 0 (k / 8) (omega (arith, g .is .size)) in
+      rw same (g .is .ones k l)

@@ -12,7 +12,7 @@ use Rattle.tree.specs.Tree.{Tree, InOrder}
 use Rattle.query.specs.Syntax.{Path}
 use Rattle.query.specs.Table.{entries, entryBytes, queryOf}
 use Rattle.query.specs.Meaning.{reach}
-use Rattle.query.specs.Fault.{curators, answered, last, EntryFits, Query}
+use Rattle.query.specs.Fault.{curators, Query}
 use Rattle.text.specs.Written.{tableOf}
 use Rattle.text.specs.Promise.{TextOf, TextFault, TextRead}
 use Rattle.reading.proofs.Back.{table-back, query-back}
@@ -83,15 +83,6 @@ pub set-given : {Set : ℕ → Type 0} (ks : List ℕ) → ((k : ℕ) → Set k 
 set-given ks same e before l =
     let is = bitmap-of ks same in
     record { map = bitmapOf ks; is = is; count = e; written = front before (bitmapOf ks) (omega (arith, is .size)) }
-
--- what a curator may ask may be answered on a roll
-pub query-answered : {b : Bytes} → Query curators b → Query answered b
-unfolding last
-query-answered {b} q = record {
-  size = record { some = q .size .some; size = record { multiple = q .size .size .multiple; most = omega (arith, q .size .size .most) } };
-  entry = λ i l. let e : EntryFits curators b i = q .entry i l in record { right = e .right; low = omega (arith, e .low) };
-  path = q .path;
-}
 
 -- the query that a text's table holds is the text's path
 pub query-of : {text : Bytes} {p : Path} → TextOf p text → queryOf (entries (entryBytes (tableOf p))) ≡ p

@@ -18,6 +18,7 @@ use Rattle.query.specs.Table.{entries, entryBytes, readOn, meanings, mean, buil
 use Rattle.query.specs.Kind.{kinds, find}
 use Rattle.answer.specs.Promise.{Answered}
 use Rattle.answer.proofs.Unique.{answered-one}
+use Rattle.answer.proofs.Asking.{query-answered}
 use Rattle.view.specs.Annotation.{Rule, records, rules}
 use Rattle.view.specs.Visible.{root}
 use Rattle.view.specs.Promise.{Seen, Annotated, ViewGiven, ViewCut}
@@ -30,7 +31,7 @@ use Rattle.curator.proofs.Unique.{curator-answered-one}
 use Rattle.cases.specs.Worked.{roll, annotation, filters}
 use Rattle.cases.specs.Cases.{InFront, IsView, Cuts}
 use Rattle.cases.proofs.Accepted.{isAnnotated, is-annotated}
-use Rattle.cases.proofs.Outcomes.{comes-out, front, Asked, query-answered}
+use Rattle.cases.proofs.Outcomes.{comes-out, front, Asked}
 
 -- the bytes of the worked roll are a roll
 pub worked-roll : Roll roll
