@@ -1,0 +1,28 @@
+-- What call 5 counts in its room is a table that may be answered on a roll, and whose query is faithful to hers. Assumes nothing.
+use Prim.Native.Nat.{ℕ, _*_}
+use native.Mathlib.Omega.{arith}
+use mathlib.Core.Path.{_≡_, ap, _∙_}
+use mathlib.Core.List.{_++_}
+use lib.ListN.{length, take}
+use lib.Seq.{take-at}
+use Rattle.reply.specs.Reply.{count}
+use Rattle.reply.specs.Bytes.{Bytes}
+use Rattle.reply.specs.Outcome.{done}
+use Rattle.query.specs.Table.{entries, queryOf}
+use Rattle.query.specs.Fault.{answered, Query}
+use Rattle.query.proofs.Tables.{entries-length}
+use Rattle.rewrite.specs.Promise.{Faithful, Rewritten, RewriteGiven}
+
+module _ (annotation filters query before : Bytes) (n : ℕ) (after : Bytes) where
+  -- the entries counted are the rewritten table
+  table-front : (given : Rewritten annotation filters query before n after) → take (6 * n) after ≡ filters ++ given .behind
+  table-front given =
+      let table = filters ++ given .behind in
+      let bytes : length table ≡ 6 * n = omega (arith, given .count, entries-length table, given .accepted .size .size .multiple) in
+      ap (take (6 * n)) (given .written .bytes) ∙ take-at _ _ (6 * n) bytes
+
+  pub table-given : RewriteGiven annotation filters query before (count n) after
+      → Query answered (take (6 * n) after)
+      × Faithful annotation filters (queryOf (entries (take (6 * n) after))) (queryOf (entries query))
+  unfolding RewriteGiven
+  table-given (done room right given) = rw (table-front given) (given .accepted, given .faithful)
