@@ -1,1 +1,6 @@
 pub mod Unique
+pub mod Positions
+pub mod Through
+pub mod Alike
+pub mod OnView
+pub mod Demand
