@@ -82,8 +82,10 @@ module _ (t : ℕ) where
   pub image-requires-2 : lts.Need-image-requires-2 (claims t) (narrow-at t) narrow.Post
   image-requires-2 c κs =
       let k = c .before .before in
-      let inside = image-inside (stays k _) (known k .asked .nodes-only) (c .image .ensures) in
-      operand-below (known k) (is-leads (known k) (c .before .match .keys2) .0) inside (measured k)
+      let left = is-leads (known k) (c .before .match .keys2) .0 in
+      let ends = operand-below (known k) left (image-inside (stays k _) (known k .asked .nodes-only) (c .image .ensures)) (measured k) in
+      let asked = operand-below (known k) left (known k .asked .nodes-only) (measured k) in
+      search (ends, asked)
 
   pub common-requires : lts.Need-common-requires (claims t) (narrow-at t) narrow.Post
   common-requires c κs = search needs
