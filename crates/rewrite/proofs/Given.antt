@@ -21,8 +21,13 @@ module _ (annotation filters query before : Bytes) (n : ℕ) (after : Bytes) whe
       let bytes : length table ≡ 6 * n = omega (arith, given .count, entries-length table, given .accepted .size .size .multiple) in
       ap (take (6 * n)) (given .written .bytes) ∙ take-at _ _ (6 * n) bytes
 
-  pub table-given : RewriteGiven annotation filters query before (count n) after
-      → Query answered (take (6 * n) after)
-      × Faithful annotation filters (queryOf (entries (take (6 * n) after))) (queryOf (entries query))
+  -- they are a query that may be answered, faithful to hers
+  abbrev pub Answerable : Type 0
+  Answerable = Query answered (take (6 * n) after) × Faithful annotation filters (queryOf (entries (take (6 * n) after))) (queryOf (entries query))
+
+  pub table-written : Rewritten annotation filters query before n after → Answerable
+  table-written given = rw (table-front given) (given .accepted, given .faithful)
+
+  pub table-given : RewriteGiven annotation filters query before (count n) after → Answerable
   unfolding RewriteGiven
-  table-given (done room right given) = rw (table-front given) (given .accepted, given .faithful)
+  table-given (done room right given) = table-written given
