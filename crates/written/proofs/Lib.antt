@@ -1,0 +1,7 @@
+pub mod Rows
+pub mod Stands
+pub mod Patterns
+pub mod Axes
+pub mod Records
+pub mod Queries
+pub mod Table
