@@ -7,6 +7,7 @@ pub mod Deciding
 pub mod Answers
 pub mod Unique
 pub mod Tables
+pub mod Bytes
 pub mod Appended
 pub mod Turn
 pub mod Standing

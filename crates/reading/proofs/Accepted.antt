@@ -12,14 +12,9 @@ use Rattle.query.specs.Fault.{curators, last, Query}
 use Rattle.text.specs.Grammar.{PathText}
 use Rattle.text.specs.Written.{tableOf}
 use Rattle.text.specs.Promise.{Fits, TextOf}
+use Rattle.query.proofs.Bytes.{bytes-length}
 use Rattle.reading.proofs.Back.{table-back}
 use Rattle.reading.proofs.Ordered.{text-ordered}
-
--- six bytes for each entry
-pub bytes-length : (es : Entries) → length (entryBytes es) ≡ 6 * length es
-unfolding entryBytes twoBytes
-bytes-length [] = refl
-bytes-length (e ∷ es) = omega (arith, bytes-length es)
 
 module _ {text : Bytes} {p : Path} (x : PathText text p) where
   -- a table that fits is a query

@@ -11,6 +11,7 @@ use Rattle.query.specs.Kind.{find, kinds}
 use Rattle.query.specs.Syntax.{Path, self, child, parent, next, previous, stay, then, either, star}
 use Rattle.query.specs.Syntax.{Filter, labelled, leads, always, never, not, and, or}
 use Rattle.query.specs.Table.{Entry, Entries, entries, entryBytes, readOn, Meant, a-path, a-filter, thePath, theFilter, pathIn, filterIn, build, mean, meanings, queryOf}
+use Rattle.query.proofs.Bytes.{Below, none, one, entries-back}
 use Rattle.query.proofs.Tables.{read-length, read-append, read-keeps}
 use Rattle.text.specs.Written.{pathEntries, filterEntries, tableOf}
 
@@ -104,24 +105,7 @@ pub query-back : (p : Path) → queryOf (tableOf p) ≡ p
 unfolding queryOf meanings tableOf pathIn thePath
 query-back p = ap thePath (rw zero-add at (path-last p [] 0 refl .last))
 
--- The operands' numbers are all below a bound.
-pub data Below (bound : ℕ) : Entries → Type 0 where
-  none : Below bound []
-  one : {e : Entry} {es : Entries} → e .left < bound → e .right < bound → Below bound es → Below bound (e ∷ es)
-
--- a number of two bytes is read back
-two-back : (n : ℕ) → n < 65536 → two (n % 256) (n / 256 % 256) ≡ n
-two-back n l = omega arith
-
--- entries whose operands' numbers have two bytes are read back from their bytes
-pub entries-back : {es : Entries} → Below 65536 es → entries (entryBytes es) ≡ es
-unfolding entries entryBytes twoBytes
-entries-back none = refl
-entries-back (one {e = e} l r more) =
-    let rest = entries-back more in
-    λ i. record { kind = e .kind; label = e .label; left = two-back (e .left) l i; right = two-back (e .right) r i } ∷ rest i
-
--- of two lists together
+-- the operands' numbers of two lists together are below a bound
 below-append : {bound : ℕ} {es more : Entries} → Below bound es → Below bound more → Below bound (es ++ more)
 below-append none y = y
 below-append (one l r x) y = one l r (below-append x y)

@@ -6,13 +6,8 @@ use mathlib.Core.List.{[], _∷_, _++_, append-assoc}
 use lib.ListN.{length, take, length-append}
 use Rattle.reply.specs.Bytes.{Bytes, twoBytes}
 use Rattle.query.specs.Table.{Entries, entryBytes}
+use Rattle.query.proofs.Bytes.{bytes-of-both}
 use Rattle.tokens.specs.Reading.{Added}
-
--- the bytes of two lists of entries stand behind each other
-pub bytes-of-both : (es fs : Entries) → entryBytes (es ++ fs) ≡ entryBytes es ++ entryBytes fs
-unfolding entryBytes twoBytes
-bytes-of-both [] fs = refl
-bytes-of-both (e ∷ es) fs = rw (bytes-of-both es fs)
 
 -- what is added behind what was added
 pub added-on : {t u v : Bytes} {n m : ℕ} {es fs : Entries} → Added t n es u → m ≡ n + length es → Added u m fs v → Added t n (es ++ fs) v
