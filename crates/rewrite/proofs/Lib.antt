@@ -1,2 +1,3 @@
 pub mod Faithful
 pub mod Given
+pub mod Made

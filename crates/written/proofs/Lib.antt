@@ -5,3 +5,4 @@ pub mod Axes
 pub mod Records
 pub mod Queries
 pub mod Table
+pub mod Back

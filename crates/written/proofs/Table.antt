@@ -8,7 +8,7 @@ use mathlib.Core.List.{List, [], _∷_, _++_, map, append-assoc, append-nil}
 use lib.ListN.{length, getD, length-append, length-map, List·getD-map}
 use Rattle.query.specs.Syntax.{Path, Filter}
 use Rattle.query.specs.Kind.{path}
-use Rattle.query.specs.Table.{Entries, HasSort, EntryRight, height, heightAt, readOn, Meant, thePath, pathIn, mean, meanings, pathAt, queryOf}
+use Rattle.query.specs.Table.{Entry, Entries, HasSort, EntryRight, height, heightAt, readOn, Meant, thePath, pathIn, mean, meanings, pathAt, queryOf}
 use Rattle.query.proofs.Tables.{read-length}
 use Rattle.view.specs.Annotation.{AnnotationRecord, recordAt, RecordForm, Rule}
 use Rattle.rewriting.proofs.Rewriting.{rewritten}
@@ -20,16 +20,23 @@ use Rattle.written.proofs.Records.{ruleOf, Stage, stage-begins, stage-m
 use Rattle.written.proofs.Queries.{carry, carry-sort, carry-at, path-in, drawn-whole, sound-whole}
 
 -- nine entries for each record
-records-many : (first : ℕ) (records : List AnnotationRecord) → length (recordsEntries first records) ≡ 9 * length records
+pub records-many : (first : ℕ) (records : List AnnotationRecord) → length (recordsEntries first records) ≡ 9 * length records
 unfolding recordsEntries
 records-many first [] = refl
 records-many first (r ∷ more) =
     omega (arith, length-append (recordsEntries first more) (recordEntries first (first + 3 + 9 * length more) r), records-many first more)
 
 pub prelude-size : (first : ℕ) (records : List AnnotationRecord) → length (prelude first records) ≡ preludeSize (length records)
-unfolding prelude preludeSize axisRows
+unfolding prelude axisRows
 prelude-size first records =
     omega (arith, length-append (recordsEntries first records) (map (raise (first + 1 + 9 * length records)) axisRows), records-many first records)
+
+-- the prelude, and an entry for each of the query's
+pub written-size : (first : ℕ) (records : List AnnotationRecord) (query : Entries) → length (written first records query) ≡ preludeSize (length records) + length query
+unfolding written
+written-size first records query =
+    let view : Entry → Entry = viewEntry (first + 1 + 9 * length records) (first + preludeSize (length records)) in
+    omega (arith, length-append (prelude first records) (map view query), length-map query view, prelude-size first records)
 
 -- The records' entries, behind the filter table and the opening.
 module _ {filters : Entries} {h : ℕ} (sound : Sound filters h) where
@@ -113,7 +120,6 @@ module _ {filters : Entries} {h : ℕ} (sound : Sound filters h) (records : List
 
     -- "entries of the filter table, entries of the query, 9 for each record and a constant"
     pub table-size : length table ≡ length filters + length query + 9 * length records + 59
-    unfolding preludeSize
     table-size =
         omega (arith, sym (ap length whole-table), length-append front (map (viewEntry distance (length front)) query), length-map query (viewEntry distance (length front)), front-size)
 
@@ -127,7 +133,7 @@ module _ {filters : Entries} {h : ℕ} (sound : Sound filters h) (records : List
     -- the table stands for the rewriting of the query
     pub table-stands : 1 ≤ length query → HasSort query (length query - 1) path
         → HasSort table (length table - 1) path × (queryOf table ≡ rewritten (visibleBy ruled) (queryOf query))
-    unfolding preludeSize queryOf pathAt pathIn meanings visibleBy climbing
+    unfolding queryOf pathAt pathIn meanings visibleBy climbing
     table-stands some last =
         let k : ℕ = length query - 1 in
         let vis : Filter = seenBy own shown in

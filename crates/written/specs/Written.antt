@@ -40,20 +40,22 @@ raise distance = renumber (λ x. x + distance)
 abbrev pub opening : Entries
 opening = entry 3 0 0 ∷ entry 19 0 0 ∷ entry 19 0 0 ∷ []
 
--- Nine entries for a record, the first with number b; the parent step has the number `parent`. The two entries before them say of the records that
--- were written whether one is the node's and whether one shows it; the last two of the nine say so with this record.
-abbrev pub recordEntries : ℕ → ℕ → AnnotationRecord → Entries
-recordEntries parent b r =
-    labelEntry (r .child)
-    ∷ labelEntry (r .parent)
+-- Six entries for a pair of labels, the first with number b; the parent step has the number `up`.
+abbrev pub pairEntries : (up b parent child : ℕ) → Entries
+pairEntries up b parent child =
+    labelEntry child
+    ∷ labelEntry parent
     ∷ entry 6 (b + 1) 0
-    ∷ entry 7 parent (b + 2)
+    ∷ entry 7 up (b + 2)
     ∷ entry 17 (b + 3) 0
     ∷ entry 21 b (b + 4)
-    ∷ entry 21 (b + 5) (r .filter)
-    ∷ entry 22 (b + 5) (b - 2)
-    ∷ entry 22 (b + 6) (b - 1)
     ∷ []
+
+-- Nine entries for a record. The two before them say of the records that were written whether one is the node's, and whether one shows it; the last two
+-- of the nine say so with this record.
+abbrev pub recordEntries : ℕ → ℕ → AnnotationRecord → Entries
+recordEntries up b r =
+    pairEntries up b (r .parent) (r .child) ++ (entry 21 (b + 5) (r .filter) ∷ entry 22 (b + 5) (b - 2) ∷ entry 22 (b + 6) (b - 1) ∷ [])
 
 -- The entries of all records, the last record first, behind the opening; `first` is the number of the parent step.
 unfoldable pub recordsEntries : ℕ → List AnnotationRecord → Entries
@@ -139,7 +141,7 @@ unfoldable pub prelude : ℕ → List AnnotationRecord → Entries
 prelude first records = opening ++ (recordsEntries first records ++ map (raise (first + 1 + 9 * length records)) axisRows)
 
 -- how many entries that is
-unfoldable pub preludeSize : ℕ → ℕ
+abbrev pub preludeSize : ℕ → ℕ
 preludeSize records = 59 + 9 * records
 
 -- What is written for an entry of the query, by the number of its kind: a step along an axis becomes a copy of that axis's last row, any other stays

@@ -1,0 +1,4 @@
+pub mod Laying
+pub mod RowTable
+pub mod Recording
+pub mod Moving

@@ -1,0 +1,54 @@
+// The query's own entries, one for each.
+use crate::entry::put_raised;
+use crate::rows::put_row;
+use tables::entry::count;
+use tables::entry::entry_at;
+ghost use mathlib.Core.Path.{_≡_};
+ghost use mathlib.Core.List.{[], _∷_, map};
+ghost use lib.ListN.{length};
+ghost use Rattle.query.specs.Table.{entries, entryAt, EntryRight};
+ghost use Rattle.written.specs.Written.{viewEntry};
+ghost use Rattle.writer.specs.Laid.{laid, Room, Short, AllInOrder};
+
+// The last row of each axis.
+const DOWN: usize = 18;
+
+const UP: usize = 22;
+
+const FORWARDS: usize = 44;
+
+const BACKWARDS: usize = 55;
+
+// Writes what stands for entry i of the query, as entry `at` of the part: of a step along an axis a copy of the axis's last row.
+// The rows count from `axes`, and the query's entries stand `distance` further on.
+fn put_view(out: &mut [u8], at: usize, query: &[u8], i: usize, axes: usize, distance: usize)
+    requires { ⌜ Room (now out) at 1 ⌝ }
+    requires { ⌜ EntryRight (entries (now query)) i ⌝ }
+    requires { ⌜ Short i × (Short axes × Short distance) ⌝ }
+    ensures { λ _. ⌜ now (out .exit) ≡ laid (now (out .entry)) at (viewEntry axes distance (entryAt (entries (now (query .entry))) i) ∷ []) ⌝ }
+{
+    let own = entry_at(query, i);
+    let kind = own.kind;
+    match kind {
+        2 => put_row(out, at, DOWN, axes),
+        3 => put_row(out, at, UP, axes),
+        4 => put_row(out, at, FORWARDS, axes),
+        5 => put_row(out, at, BACKWARDS, axes),
+        _ => put_raised(out, at, kind, own.label, own.left, own.right, distance),
+    }
+}
+
+// Writes what stands for each entry of the query, from entry `at` of the part on.
+pub fn write_query(out: &mut [u8], at: usize, query: &[u8], axes: usize, distance: usize)
+    requires { ⌜ Room (now out) at (length (entries (now query))) ⌝ }
+    requires { ⌜ AllInOrder (now query) ⌝ }
+    requires { ⌜ Short (length (entries (now query))) × (Short axes × Short distance) ⌝ }
+    ensures { λ _. ⌜ now (out .exit) ≡ laid (now (out .entry)) at (map (viewEntry axes distance) (entries (now (query .entry)))) ⌝ }
+{
+    let n = count(query);
+    let mut i = 0;
+    while i < n {
+        put_view(out, at + i, query, i, axes, distance);
+        i += 1;
+    }
+}
