@@ -1,7 +1,6 @@
 // One entry of six bytes is written.
 use tables::kinds::NONE;
-use tables::kinds::left_of;
-use tables::kinds::right_of;
+use tables::kinds::shape_of;
 ghost use mathlib.Core.Path.{_≡_};
 ghost use mathlib.Core.List.{[], _∷_};
 ghost use Prim.Native.Nat.{_+_};
@@ -24,7 +23,7 @@ pub fn put(out: &mut [u8], at: usize, kind: usize, label: usize, left: usize, ri
 }
 
 // An operand's number, raised by a distance where the field is used.
-fn raised(sort: usize, number: usize, distance: usize) -> usize
+fn raised(sort: u8, number: usize, distance: usize) -> usize
     requires { ⌜ Short number × Short distance ⌝ }
     ensures { λ r. ⌜ r ≡ moved (λ x. x + distance) sort number ⌝ }
 {
@@ -50,7 +49,8 @@ pub fn put_raised(
     requires { ⌜ (Short left × Short right) × Short distance ⌝ }
     ensures { λ _. ⌜ now (out .exit) ≡ laid (now (out .entry)) at (raise distance (fields kind label left right) ∷ []) ⌝ }
 {
-    let new_left = raised(left_of(kind), left, distance);
-    let new_right = raised(right_of(kind), right, distance);
+    let shape = shape_of(kind);
+    let new_left = raised(shape.left, left, distance);
+    let new_right = raised(shape.right, right, distance);
     put(out, at, kind, label, new_left, new_right);
 }

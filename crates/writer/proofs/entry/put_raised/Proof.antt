@@ -1,4 +1,4 @@
--- `writer::entry::put_raised` meets its contract. Assumes nothing.
+-- `writer::entry::put_raised` meets its contract: each operand is raised as its kind's shape says. Assumes nothing.
 use Prim.Native.Nat.{ℕ, _+_}
 use mathlib.Core.Path.{ap, ap₂, _∙_}
 use mathlib.Core.List.{[], _∷_}
@@ -8,14 +8,11 @@ use borrow.Author.Needs.{needs}
 use Rattle.writer.proofs.entry.put_raised.Statement.{statement}
 use Rattle.writer.proofs.entry.put_raised.Tie as tie
 
-left-of-requires : tie.Need-left-of-requires
-left-of-requires c κs = search needs
+shape-of-requires : tie.Need-shape-of-requires
+shape-of-requires c κs = search needs
 
 raised-requires : tie.Need-raised-requires
 raised-requires c κs = search needs
-
-right-of-requires : tie.Need-right-of-requires
-right-of-requires c κs = search needs
 
 raised-requires-2 : tie.Need-raised-requires-2
 raised-requires-2 c κs = search needs
@@ -31,21 +28,21 @@ unfolding renumber
 returns c =
     let at-put = c .before .before in
     let second = at-put .before .before in
-    let first = second .before .before in
-    let a = first .before .before .before .args in
+    let first = second .before in
+    let shape = first .before in
+    let a = shape .before .before .args in
     let to : ℕ → ℕ = λ x. x + a .distance in
     at-put .put .ensures
     ∙ ap₂ (λ (l r : ℕ). laid (a .out .now) (a .at) (fields (a .kind) (a .label) l r ∷ []))
-    (first .raised .ensures ∙ ap (λ (sort : ℕ). moved to sort (a .left)) (first .before .left-of .ensures))
-    (second .raised2 .ensures ∙ ap (λ (sort : ℕ). moved to sort (a .right)) (second .before .right-of .ensures))
+    (first .raised .ensures ∙ ap (λ (sort : ℕ). moved to sort (a .left)) (shape .shape-of .ensures .left))
+    (second .raised2 .ensures ∙ ap (λ (sort : ℕ). moved to sort (a .right)) (shape .shape-of .ensures .right))
 
 pub put-raised-spec : {M : Type 1} → statement M
 put-raised-spec =
     tie.close
     (tie.spec
-    left-of-requires
+    shape-of-requires
     raised-requires
-    right-of-requires
     raised-requires-2
     put-requires
     same-length
