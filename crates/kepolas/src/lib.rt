@@ -1,9 +1,12 @@
 // The calls for C and Rust, on numbers and slices of bytes. A call returns the refusal's number, or 0 where it gives a count; the count, or
 // the refusal's place, it writes to a number that the caller lends.
 use answer::answer_on_roll;
+use curator::curators_answer;
+use cutting::cut_view;
 use reader::read_text;
 use reply::Reply;
 use reply::number_of;
+use rewrite::rewrite;
 use roll::check_roll;
 use roll::run_of;
 ghost use mathlib.Core.Path.{_≡_};
@@ -11,6 +14,9 @@ ghost use Rattle.reply.specs.Reply.{said};
 ghost use Rattle.roll.specs.Promise.{RollChecked, RunPlace};
 ghost use Rattle.text.specs.Promise.{TextRead};
 ghost use Rattle.answer.specs.Promise.{Answered};
+ghost use Rattle.view.specs.Promise.{ViewCut};
+ghost use Rattle.rewrite.specs.Promise.{RewriteGiven};
+ghost use Rattle.curator.specs.Promise.{CuratorAnswered};
 ghost use Rattle.kepolas.specs.Told.{heard, Tells};
 
 // Tells a reply.
@@ -57,6 +63,49 @@ pub extern "C" fn kepolas_answer_on_roll(
     ensures { λ r. ⌜ Tells (λ s. Answered (now (roll .entry)) (now (query .entry)) (now (room .entry)) s (now (room .exit))) r (now (told .exit)) ⌝ }
 {
     tell(answer_on_roll(roll, query, room), told)
+}
+
+// Call 4.
+#[no_mangle]
+pub extern "C" fn kepolas_cut_view(
+    roll: &[u8],
+    annotation: &[u8],
+    filters: &[u8],
+    room: &mut [u8],
+    told: &mut usize,
+) -> u64
+    ensures { λ r. ⌜ Tells (λ s. ViewCut (now (roll .entry)) (now (annotation .entry)) (now (filters .entry)) (now (room .entry)) s (now (room .exit))) r (now (told .exit)) ⌝ }
+{
+    tell(cut_view(roll, annotation, filters, room), told)
+}
+
+// Call 5.
+#[no_mangle]
+pub extern "C" fn kepolas_rewrite(
+    annotation: &[u8],
+    filters: &[u8],
+    query: &[u8],
+    room: &mut [u8],
+    told: &mut usize,
+) -> u64
+    ensures { λ r. ⌜ Tells (λ s. RewriteGiven (now (annotation .entry)) (now (filters .entry)) (now (query .entry)) (now (room .entry)) s (now (room .exit))) r (now (told .exit)) ⌝ }
+{
+    tell(rewrite(annotation, filters, query, room), told)
+}
+
+// Call 6.
+#[no_mangle]
+pub extern "C" fn kepolas_curators_answer(
+    roll: &[u8],
+    annotation: &[u8],
+    filters: &[u8],
+    query: &[u8],
+    room: &mut [u8],
+    told: &mut usize,
+) -> u64
+    ensures { λ r. ⌜ Tells (λ s. CuratorAnswered (now (roll .entry)) (now (annotation .entry)) (now (filters .entry)) (now (query .entry)) (now (room .entry)) s (now (room .exit))) r (now (told .exit)) ⌝ }
+{
+    tell(curators_answer(roll, annotation, filters, query, room), told)
 }
 
 // Call 7 gives a part and no number: it tells where the part starts and ends in the bytes of the roll, an empty one by 0 and 0.

@@ -12,7 +12,7 @@ ghost use Rattle.view.specs.Promise.{Annotated};
 ghost use Rattle.rewrite.specs.Promise.{Rewritten, RewriteGiven};
 
 // "The rewritten table begins with the filter table's entries, unchanged. What follows is written behind them." Gives the number of entries.
-fn write_out(annotation: &[u8], filters: &[u8], query: &[u8], room: &mut [u8]) -> usize
+pub fn write_rewritten(annotation: &[u8], filters: &[u8], query: &[u8], room: &mut [u8]) -> usize
     requires { ⌜ Annotated (now annotation) (now filters) × Query curators (now query) ⌝ }
     requires { ⌜ 6144 ≤ length (now room) ⌝ }
     ensures { λ r. ⌜ Rewritten (now (annotation .entry)) (now (filters .entry)) (now (query .entry)) (now (room .entry)) r (now (room .exit)) ⌝ }
@@ -31,6 +31,6 @@ pub fn rewrite(annotation: &[u8], filters: &[u8], query: &[u8], room: &mut [u8])
     let Reply::Count(_) = ready else {
         return ready;
     };
-    let entries = write_out(annotation, filters, query, room);
+    let entries = write_rewritten(annotation, filters, query, room);
     Reply::Count(entries)
 }

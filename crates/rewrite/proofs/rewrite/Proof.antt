@@ -30,8 +30,8 @@ checked : (c : tie.After-enum-told) → let a = c .before .before .before .befor
 unfolding ReadyToRewrite
 checked c = let (room, right, size) = ready-counted (c .enum-told .given .1) (c .before .before .ready-to-rewrite .ensures) in (room, right)
 
-write-out-requires : tie.Need-write-out-requires
-write-out-requires c κs = let (room, right) = checked (c .before) in (right, room)
+write-rewritten-requires : tie.Need-write-rewritten-requires
+write-rewritten-requires c κs = let (room, right) = checked (c .before) in (right, room)
 
 same-length : tie.Need-same-length
 same-length c = search needs
@@ -41,7 +41,7 @@ unfolding RewriteGiven
 returns-2 c =
     let at-write = c .before .before in
     let (room, right) = checked (at-write .before .before) in
-    done room right (at-write .write-out .ensures)
+    done room right (at-write .write-rewritten .ensures)
 
 pub rewrite-spec : {M : Type 1} → statement M
 rewrite-spec =
@@ -51,6 +51,6 @@ rewrite-spec =
     enum-told
     enum-told-2
     returns
-    write-out-requires
+    write-rewritten-requires
     same-length
     returns-2)

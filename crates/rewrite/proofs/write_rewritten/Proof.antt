@@ -1,9 +1,9 @@
--- `rewrite::write_out` meets its contract. Assumes nothing.
+-- `rewrite::write_rewritten` meets its contract. Assumes nothing.
 use native.Mathlib.Omega.{arith}
 use Rattle.rewrite.proofs.Made.{copy-fits, writer-given, made, short-count}
 use borrow.Author.Needs.{needs}
-use Rattle.rewrite.proofs.write_out.Statement.{statement}
-use Rattle.rewrite.proofs.write_out.Tie as tie
+use Rattle.rewrite.proofs.write_rewritten.Statement.{statement}
+use Rattle.rewrite.proofs.write_rewritten.Tie as tie
 
 copy-requires : tie.Need-copy-requires
 copy-requires c κs = search needs
@@ -52,8 +52,8 @@ returns c =
     let (many, laid-there) = at-write .write-behind .ensures in
     made annotated asked (start .args .room .now) (at-copy .copy .last .1 .0) (at-copy .copy .result) (start .pre .1) size copied (at-count .count .ensures) many laid-there
 
-pub write-out-spec : {M : Type 1} → statement M
-write-out-spec =
+pub write-rewritten-spec : {M : Type 1} → statement M
+write-rewritten-spec =
     tie.close
     (tie.spec
     copy-requires
