@@ -33,7 +33,7 @@ pathOf Parent = syntax.parent
 pathOf Next = syntax.next
 pathOf Previous = syntax.previous
 
--- the axis of a kind: "2 child", "3 parent", "4 next sibling", "5 previous sibling"
+-- the axis of a kind, in the order of the list of kinds
 pub data OfKind : ℕ → Axis → Type 0 where
   child : {kind : ℕ} → kind ≡ 2 → OfKind kind Child
   parent : {kind : ℕ} → kind ≡ 3 → OfKind kind Parent

@@ -43,10 +43,6 @@ pub member : (set : List ℕ) (k : ℕ) → In set k → digit (getD set (k / 64
 unfolding bitOf
 member set k m = m .one
 
--- each word of a set
-pub own-word : (set : List ℕ) (j : ℕ) → Word 64 (In set) j (getD set j 0)
-own-word set j = record { exact = in-word set j }
-
 module _ (a b : List ℕ) (j : ℕ) where
   pub union-word : Word 64 (λ k. In a k ⊎ In b k) j (bitOr (getD a j 0) (getD b j 0))
   union-word = record {

@@ -11,7 +11,7 @@ pub fn empty() -> [u64; 64]
     [0; 64]
 }
 
-// The set with k in it.
+// Puts k into the set.
 pub fn add(set: &mut [u64; 64], k: usize)
     requires { ⌜ k < 4096 ⌝ }
     ensures { λ _. ⌜ Holds (λ j. In (now (set .entry)) j ⊎ (k ≡ j)) (now (set .exit)) ⌝ }

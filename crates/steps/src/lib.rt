@@ -1,5 +1,5 @@
 // Steps from the members of a set: along an axis, and to where a label is. A step costs in proportion to the nodes it starts from
-// and reaches, not to the roll.
+// and reaches, not to the roll; a star along an axis is one sweep over all nodes.
 mod along;
 mod axis;
 mod label;

@@ -59,24 +59,6 @@ pub fn kind_at(table: &[u8], i: usize) -> usize
     entry_at(table, i).kind
 }
 
-pub fn label_at(table: &[u8], i: usize) -> usize
-    ensures { λ r. ⌜ r ≡ entryAt (entries (now (table .entry))) i .label ⌝ }
-{
-    entry_at(table, i).label
-}
-
-pub fn left_at(table: &[u8], i: usize) -> usize
-    ensures { λ r. ⌜ r ≡ entryAt (entries (now (table .entry))) i .left ⌝ }
-{
-    entry_at(table, i).left
-}
-
-pub fn right_at(table: &[u8], i: usize) -> usize
-    ensures { λ r. ⌜ r ≡ entryAt (entries (now (table .entry))) i .right ⌝ }
-{
-    entry_at(table, i).right
-}
-
 // The number of the sort of entry i, 0 where its kind is not listed.
 pub fn sort_at(table: &[u8], i: usize) -> u8
     ensures { λ r. ⌜ r ≡ sortOf (rowAt (entries (now (table .entry))) i) ⌝ }
