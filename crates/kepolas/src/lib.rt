@@ -105,7 +105,10 @@ pub extern "C" fn kepolas_curators_answer(
 ) -> u64
     ensures { λ r. ⌜ Tells (λ s. CuratorAnswered (now (roll .entry)) (now (annotation .entry)) (now (filters .entry)) (now (query .entry)) (now (room .entry)) s (now (room .exit))) r (now (told .exit)) ⌝ }
 {
-    tell(curators_answer(roll, annotation, filters, query, room), told)
+    tell(
+        curators_answer(roll, annotation, filters, query, room),
+        told,
+    )
 }
 
 // Call 7 gives a part and no number: it tells where the part starts and ends in the bytes of the roll, an empty one by 0 and 0.

@@ -1,7 +1,7 @@
 -- A sweep over the nodes, in the direction in which a relation leads, goes on from every member that it comes to, and so reaches what the
 -- relation's star reaches. Assumes nothing.
-use Prim.Native.Nat.{ℕ, _+_, _-_, _≤_, _<_}
-use native.Mathlib.Decide.{ℕ-discrete}
+use Prim.Native.Nat.{ℕ, _+_, _/_, _%_, _≤_, _<_}
+use native.Mathlib.Decide.{ℕ-discrete, decLe, decLt}
 use native.Mathlib.Omega.{arith}
 use mathlib.Core.Path.{_≡_, refl, sym, subst}
 use mathlib.Core.Logic.{_↔_, _⊎_, inl, inr, ⊎-elim}
@@ -32,9 +32,9 @@ Passed false n k i = i < k
 abbrev pub Coming : Bool → ℕ → ℕ → ℕ → Type 0
 Coming falling n k i = (falling ≡ true → i + k + 1 ≡ n) × (falling ≡ false → i ≡ k)
 
--- it is a node
-pub coming-node : (falling : Bool) {n k i : ℕ} → k < n → (falling ≡ true → i + k ≡ n - 1) × (falling ≡ false → i ≡ k)
-    → (i < n) × Coming falling n k i
+-- it is one of them
+pub coming-node : (falling : Bool) {k i : ℕ} → k < 4096 → (falling ≡ true → i + k ≡ 4095) × (falling ≡ false → i ≡ k)
+    → (i < 4096) × Coming falling 4096 k i
 coming-node true l at = let e = at .0 refl in (omega arith, (λ f. omega arith, at .1))
 coming-node false l at = let e = at .1 refl in (omega arith, (λ f. let z : _≡_ {A = ℕ} 0 1 = cc in absurd (omega arith), at .1))
 
@@ -48,6 +48,12 @@ pub record Swept (R : ℕ → ℕ → Type 0) (falling : Bool) (n : ℕ) (from :
 passed-more : (falling : Bool) {n k i : ℕ} (m : ℕ) → Coming falling n k i → Passed falling n (k + 1) m → Passed falling n k m ⊎ (i ≡ m)
 passed-more true {n} {k} {i} m come p = elim (ℕ-discrete i m) [ yes e ↦ inr e | no h ↦ let at = come .0 refl in inl (omega arith) ]
 passed-more false {n} {k} {i} m come p = elim (ℕ-discrete i m) [ yes e ↦ inr e | no h ↦ let at = come .1 refl in inl (omega arith) ]
+
+-- where it begins a word, the numbers of that word come next
+passed-word : (falling : Bool) {k i : ℕ} (m : ℕ) → k % 64 ≡ 0 → k < 4096 → Coming falling 4096 k i → Passed falling 4096 (k + 64) m
+    → Passed falling 4096 k m ⊎ (m / 64 ≡ i / 64)
+passed-word true {k} {i} m whole l come p = let at = come .0 refl in elim (decLe 4096 (m + k)) [ yes e ↦ inl e | no h ↦ inr (omega arith) ]
+passed-word false {k} {i} m whole l come p = let at = come .1 refl in elim (decLt m k) [ yes e ↦ inl e | no h ↦ inr (omega arith) ]
 
 -- what is ahead of it is not passed
 not-passed : (falling : Bool) {n k i : ℕ} (m : ℕ) → Coming falling n k i → Ahead falling i m → ¬ Passed falling n (k + 1) m
@@ -85,6 +91,15 @@ module _ {R : ℕ → ℕ → Type 0} {falling : Bool} {n : ℕ} {from : List �
       go : (m j : ℕ) → In set m → R m j → Passed falling n k m ⊎ (i ≡ m) → In after j
       go m j x r (inl p) = add .exact j .1 (inl (s .closed m j p x r))
       go m j x r (inr e) = add .exact j .1 (inr (rw e x, rw e r))
+
+  -- a word with no member is passed by
+  pub word-swept : {set : List ℕ} {k i : ℕ} → n ≡ 4096 → k < 4096 → Swept R falling n from k set → Coming falling 4096 k i → k % 64 ≡ 0
+      → ((m : ℕ) → m / 64 ≡ i / 64 → ¬ In set m) → Swept R falling n from (k + 64) set
+  word-swept {set} {k} {i} e l s come whole none = record {
+    start = s .start;
+    reached = s .reached;
+    closed = λ m j p x r. ⊎-elim (λ q. s .closed m j (rw e q) x r) (λ q. absurd (none m q x)) (passed-word falling m whole l come (rw e at p));
+  }
 
   -- after it the set is what the star reaches
   pub all-swept : {set : List ℕ} {k : ℕ} → n ≤ k → Swept R falling n from k set → Image (Star R) from set

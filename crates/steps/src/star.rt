@@ -2,12 +2,11 @@
 // smaller ones, so what is added on the way is still to come.
 use crate::axis::Axis;
 use crate::reach::add_reached;
-use roll::count;
 use sets::has;
 ghost use mathlib.Core.Path.{_≡_};
 ghost use mathlib.Core.Bool.{true, false};
-ghost use Prim.Native.Nat.{ℕ, _+_, _≤_, _<_};
-ghost use lib.ListN.{length};
+ghost use Prim.Native.Nat.{ℕ, _+_, _/_, _%_, _<_};
+ghost use lib.Dec.{T};
 ghost use Rattle.roll.specs.Roll.{nodes, Roll};
 ghost use Rattle.query.specs.Meaning.{Star};
 ghost use Rattle.sets.specs.Sets.{In, Image};
@@ -27,12 +26,24 @@ fn leads_down(axis: Axis) -> bool
     }
 }
 
-// The node that comes k-th in a sweep over those up to the last.
-fn coming(falling: bool, last: usize, k: usize) -> usize
-    requires { ⌜ k ≤ last ⌝ }
-    ensures { λ r. ⌜ (falling ≡ true → r + k ≡ last) × (falling ≡ false → r ≡ k) ⌝ }
+// The number that comes k-th in a sweep over the 4,096 that a set can have.
+fn coming(falling: bool, k: usize) -> usize
+    requires { ⌜ k < 4096 ⌝ }
+    ensures { λ r. ⌜ (falling ≡ true → r + k ≡ 4095) × (falling ≡ false → r ≡ k) ⌝ }
 {
-    if falling { last - k } else { k }
+    if falling { 4095 - k } else { k }
+}
+
+// Whether a word begins with the k-th number, which is i, and has no member: the sweep passes it by.
+fn passes_by(set: &[u64; 64], k: usize, i: usize) -> bool
+    requires { ⌜ i < 4096 ⌝ }
+    ensures { λ r. ⌜ (T r → (k % 64 ≡ 0) × ((m : ℕ) → m / 64 ≡ i / 64 → ¬ In (now (set .entry)) m)) ⌝ }
+{
+    if k % 64 != 0 {
+        return false;
+    }
+    let words: &[u64] = set;
+    words[i / 64] == 0
 }
 
 // Goes on from i, if it is in the set.
@@ -65,14 +76,17 @@ pub fn sweep(
     requires { ⌜ Roll (now roll) × Siblings (nodes (now roll)) (now next) (now previous) ⌝ }
     ensures { λ r. ⌜ Image (Star (Along (nodes (now (roll .entry))) axis)) from r ⌝ }
 {
-    let n = count(roll);
     let falling = leads_down(axis);
     let mut set = from;
     let mut k = 0;
-    while k < n {
-        let i = coming(falling, n - 1, k);
-        go_on(roll, next, previous, axis, i, &mut set);
-        k += 1;
+    while k < 4096 {
+        let i = coming(falling, k);
+        if passes_by(&set, k, i) {
+            k += 64;
+        } else {
+            go_on(roll, next, previous, axis, i, &mut set);
+            k += 1;
+        }
     }
     set
 }

@@ -1,55 +1,55 @@
--- `steps::star::sweep` meets its contract: after each node the set is swept so far. Assumes nothing.
-use Prim.Native.Nat.{_+_, _-_, _≤_, _<_}
+-- `steps::star::sweep` meets its contract: after each number, or each word that has no member, the set is swept so far. Assumes nothing.
+use Prim.Native.Nat.{ℕ, _+_, _-_, _≤_, _<_}
+use native.Mathlib.Nat.{lt-of-lt-of-le}
 use native.Mathlib.Omega.{arith}
-use mathlib.Core.Path.{_≡_}
+use mathlib.Core.Path.{_≡_, refl, sym, subst}
 use borrow.Author.Needs.{needs}
 use denote.Ref.{now}
-use lib.ListN.{length}
-use Rattle.roll.specs.Roll.{nodes}
+use lib.Dec.{T}
+use Rattle.roll.specs.Roll.{nodes, Roll}
 use Rattle.roll.proofs.Deciding.{roll-in-order, roll-most}
+use Rattle.steps.specs.declared.axis.Axis.{Axis}
 use Rattle.steps.specs.Axis.{Along, down}
-use Rattle.steps.proofs.Sweeping.{Coming, coming-node, Swept, none-swept, more-swept, all-swept, along-node, along-ahead}
+use Rattle.steps.proofs.Sweeping.{Ahead, Coming, coming-node, Swept, none-swept, word-swept, more-swept, all-swept, along-node, along-ahead}
 use Rattle.steps.proofs.star.sweep.Statement.{statement}
 use Rattle.steps.proofs.star.sweep.Tie as tie
 
 abbrev Inv-loop : tie.InvT-loop
-Inv-loop roll next previous axis n falling set₀ k₀ set k =
-    (k ≤ n) × Swept (Along (nodes roll) axis) (down axis) (length (nodes roll)) set₀ k set
+Inv-loop roll next previous axis falling set₀ k₀ set k = (k ≤ 4096 + 63) × Swept (Along (nodes roll) axis) (down axis) 4096 set₀ k set
 
 abbrev μ-loop : tie.MeasureT-loop
-μ-loop roll next previous axis n falling set₀ k₀ set k = n - k
-
-count-requires : tie.Need-count-requires Inv-loop μ-loop
-count-requires c κs = search needs
+μ-loop roll next previous axis falling set₀ k₀ set k = 4096 - k
 
 leads-down-requires : tie.Need-leads-down-requires Inv-loop μ-loop
 leads-down-requires c κs = search needs
 
-loop-holds : tie.Need-loop-holds Inv-loop μ-loop
-loop-holds c =
-    let start = c .before .before .before in
-    let o = roll-in-order (start .pre .0) in
-    (omega arith, none-swept (along-node _ o (start .args .axis)) (along-ahead _ o (start .args .axis)))
+-- an axis of the roll leads from its nodes, and up or down
+module _ (c : tie.After-leads-down Inv-loop μ-loop) where
+  abbrev start : tie.Start Inv-loop μ-loop
+  start = c .before .before
 
-sub-coming : tie.Need-sub-coming Inv-loop μ-loop
-sub-coming c = search needs
+  node : (i j : ℕ) → Along (nodes (now (start .args .roll))) (start .args .axis) i j → i < 4096
+  node i j a =
+      let r = start .pre .0 in
+      lt-of-lt-of-le (along-node _ (roll-in-order r) (start .args .axis) i j a) (roll-most r)
+
+  ahead : (i j : ℕ) → Along (nodes (now (start .args .roll))) (start .args .axis) i j → Ahead (down (start .args .axis)) i j
+  ahead = along-ahead _ (roll-in-order (start .pre .0)) (start .args .axis)
+
+loop-holds : tie.Need-loop-holds Inv-loop μ-loop
+loop-holds c = (omega arith, none-swept (node c) (ahead c))
 
 coming-requires : tie.Need-coming-requires Inv-loop μ-loop
 coming-requires c κs = search needs
 
--- the node that comes next is a node, and comes k-th
+-- the number that comes next
 comes : (c : tie.After-coming Inv-loop μ-loop)
     → let head = c .before .before in
-    let a = head .before .before .before .before .args in
-    (c .coming .result < length (nodes (now (a .roll)))) × Coming (down (a .axis)) (length (nodes (now (a .roll)))) (head .loop .k) (c .coming .result)
-comes c =
-    let counted = c .before .before .before in
-    coming-node _ (omega (arith, counted .before .count .ensures)) (rw (← counted .leads-down .ensures, ← counted .before .count .ensures) (c .coming .ensures))
+    (c .coming .result < 4096) × Coming (down (start (head .before) .args .axis)) 4096 (head .loop .k) (c .coming .result)
+comes c = coming-node _ (c .before .loop-test .taken) (rw (← c .before .before .before .leads-down .ensures) (c .coming .ensures))
 
-go-on-requires : tie.Need-go-on-requires Inv-loop μ-loop
-go-on-requires c κs =
-    let start = c .before .before .before .before .before .before .before in
-    (start .pre, omega (arith, roll-most (start .pre .0), comes (c .before)))
+passes-by-requires : tie.Need-passes-by-requires Inv-loop μ-loop
+passes-by-requires c κs = comes (c .before) .0
 
 add-k : tie.Need-add-k Inv-loop μ-loop
 add-k c = search needs
@@ -59,18 +59,32 @@ loop-less c = search needs
 
 loop-again : tie.Need-loop-again Inv-loop μ-loop
 loop-again c =
-    let come = c .before .before in
+    let tested = c .before in
+    let come = tested .before .before in
     let head = come .before .before in
-    let start = head .before .before .before .before in
-    let o = roll-in-order (start .pre .0) in
-    (omega arith, more-swept (along-node _ o (start .args .axis)) (along-ahead _ o (start .args .axis)) (head .loop .inv .1) (comes come .1) (c .go-on .ensures))
+    let (whole, none) = tested .passes-by .ensures (subst T (sym (c .if1 .taken)) tt) in
+    let more = word-swept (node (head .before)) (ahead (head .before)) refl (come .before .loop-test .taken) (head .loop .inv .1) (comes come .1) whole none in
+    (omega arith, more)
+
+go-on-requires : tie.Need-go-on-requires Inv-loop μ-loop
+go-on-requires c κs =
+    let come = c .before .before .before .before in
+    (start (come .before .before .before) .pre, comes come .0)
+
+add-k-2 : tie.Need-add-k-2 Inv-loop μ-loop
+add-k-2 c = search needs
+
+loop-less-2 : tie.Need-loop-less-2 Inv-loop μ-loop
+loop-less-2 c = search needs
+
+loop-again-2 : tie.Need-loop-again-2 Inv-loop μ-loop
+loop-again-2 c =
+    let come = c .before .before .before .before .before in
+    let head = come .before .before in
+    (omega arith, more-swept (node (head .before)) (ahead (head .before)) (head .loop .inv .1) (comes come .1) (c .go-on .ensures))
 
 returns : tie.Need-returns Inv-loop μ-loop
-returns c =
-    let head = c .before in
-    let start = head .before .before .before .before in
-    let o = roll-in-order (start .pre .0) in
-    all-swept (along-node _ o (start .args .axis)) (along-ahead _ o (start .args .axis)) (omega (arith, head .before .before .count .ensures)) (head .loop .inv .1)
+returns c = let head = c .before in all-swept (node (head .before)) (ahead (head .before)) (c .loop-test .left) (head .loop .inv .1)
 
 pub sweep-spec : {M : Type 1} → statement M
 sweep-spec =
@@ -78,13 +92,15 @@ sweep-spec =
     (tie.spec
     Inv-loop
     μ-loop
-    count-requires
     leads-down-requires
     loop-holds
-    sub-coming
     coming-requires
-    go-on-requires
+    passes-by-requires
     add-k
     loop-less
     loop-again
+    go-on-requires
+    add-k-2
+    loop-less-2
+    loop-again-2
     returns)
