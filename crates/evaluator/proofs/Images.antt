@@ -3,8 +3,8 @@ use Prim.Native.Nat.{ℕ, _<_}
 use mathlib.Core.Path.{_≡_, refl, sym, subst}
 use mathlib.Core.Logic.{_↔_, _⊎_, inl, inr, ⊎-elim, ⊎-map}
 use mathlib.Core.List.{List}
-use Rattle.query.specs.Meaning.{Star}
-use Rattle.query.proofs.Closure.{star-map}
+use Rattle.query.specs.Meaning.{Star, stop, step}
+use Rattle.query.proofs.Closure.{star-map, star-flat}
 use Rattle.sets.specs.Sets.{In, Holds, Image, Narrowed, Inside}
 
 module _ {from : List ℕ} where
@@ -57,6 +57,10 @@ module _ {from : List ℕ} where
 -- and so have their stars
 pub image-star : {R Q : ℕ → ℕ → Type 0} {from r : List ℕ} → ((i j : ℕ) → R i j ↔ Q i j) → Image (Star R) from r → Image (Star Q) from r
 image-star e a = image-same (λ i j. (star-map (λ k l. e k l .0), star-map (λ k l. e k l .1))) a
+
+-- a star of a star reaches what the star does
+pub image-star-star : {R : ℕ → ℕ → Type 0} {from r : List ℕ} → Image (Star R) from r → Image (Star (Star R)) from r
+image-star-star a = image-same (λ i j. (λ s. step s stop, star-flat)) a
 
 -- the relation leads from nodes to nodes, of which there are n
 abbrev pub Stays : ℕ → (ℕ → ℕ → Type 0) → Type 0

@@ -19,7 +19,7 @@ use Rattle.steps.specs.declared.axis.Axis.the-variants.{Child, Parent, Next, Pr
 use Rattle.evaluator.specs.declared.course.Course.{Course}
 use Rattle.evaluator.specs.declared.course.Course.the-variants.{Forwards, Backwards, Freely}
 use Rattle.evaluator.specs.Course.{facing, pathOf, backwards, freely}
-use Rattle.evaluator.proofs.Images.{Stays, image-self, image-stay, image-then, image-either}
+use Rattle.evaluator.proofs.Images.{Stays, image-self, image-stay, image-then, image-either, image-star-star}
 
 true≢false : ¬ (_≡_ {A = Bool} true false)
 true≢false e = let z : _≡_ {A = ℕ} 0 1 = cc in omega arith
@@ -106,3 +106,11 @@ module _ (t : Tree) where
     walk-star Forwards p a = a
     walk-star Backwards p a = a
     walk-star Freely p a = a
+
+    -- a star in a star adds nothing
+    pub walk-star-star : (course : Course) (p : Path) {r : List ℕ} → Image (reach t (star (facing course p))) from r
+        → Image (reach t (star (facing course (star p)))) from r
+    unfolding reach turn free
+    walk-star-star Forwards p a = image-star-star a
+    walk-star-star Backwards p a = image-star-star a
+    walk-star-star Freely p a = image-star-star a

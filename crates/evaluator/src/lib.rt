@@ -73,7 +73,8 @@ pub fn image(
     }
 }
 
-// What the path of entry e reaches in zero or more goes: along one axis in one sweep, and by rounds where the path is made of others.
+// What the path of entry e reaches in zero or more goes: along one axis in one sweep, of a star what that star reaches, and by rounds
+// where the path is made of others.
 fn star(
     roll: &[u8],
     next: &[u16; 4096],
@@ -86,9 +87,11 @@ fn star(
     requires { ⌜ Grounds (now roll) (now table) (now next) (now previous) × Asked (now roll) (now table) path e from ⌝ }
     ensures { λ r. ⌜ Image (reach (nodes (now (roll .entry))) (syntax.star (facing course (pathAt (entries (now (table .entry))) e)))) from r ⌝ }
 {
-    let kind = entry_at(table, e).kind;
+    let entry = entry_at(table, e);
+    let kind = entry.kind;
     match kind {
         2 | 3 | 4 | 5 => sweep(roll, next, previous, way(axis_of(kind), course), from),
+        9 => star(roll, next, previous, table, entry.left, course, from),
         _ => by_rounds(roll, next, previous, table, e, course, from),
     }
 }

@@ -20,6 +20,13 @@ pub star-more : {R : ℕ → ℕ → Type 0} {i k j : ℕ} → Star R i k → R 
 star-more stop last = step last stop
 star-more (step r more) last = step r (star-more more last)
 
+-- a star behind a star is one, and so a star of stars
+star-append : {R : ℕ → ℕ → Type 0} {i k j : ℕ} → Star R i k → Star R k j → Star R i j
+star-append {R} {i} first more = star-keeps (Star R i) (λ a b s r. star-more s r) first more
+
+pub star-flat : {R : ℕ → ℕ → Type 0} {i j : ℕ} → Star (Star R) i j → Star R i j
+star-flat {R} {i} more = star-keeps (Star R i) (λ a b s r. star-append s r) stop more
+
 module _ (t : Tree) (p : Path) where
   -- "zero or more times": no step at all
   pub star-reflexive : (i : ℕ) → reach t (star p) i i

@@ -86,9 +86,11 @@ pub +by-rounds+image+narrow+star-spec : {M : Type 1} → statement M
     (narrow-needs.returns-8 t))
     (λ t. star-lts.spec (star-needs.claims t) (star-at t) star.Post
     (star-needs.entry-at-requires t)
+    (star-needs.star-requires t)
     (star-needs.axis-of-requires t)
     (star-needs.way-requires t)
     (star-needs.sweep-requires t)
     (star-needs.by-rounds-requires t)
     (star-needs.returns t)
-    (star-needs.returns-2 t))
+    (star-needs.returns-2 t)
+    (star-needs.returns-3 t))
