@@ -10,4 +10,5 @@ pub mod Tables
 pub mod Bytes
 pub mod Appended
 pub mod Turn
+pub mod Rows
 pub mod Standing

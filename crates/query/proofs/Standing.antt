@@ -2,19 +2,19 @@
 -- each of them, so that nobody who goes through a table unfolds how it is read. Assumes nothing.
 use Prim.Native.Nat.{ℕ, _≤_, _<_}
 use native.Mathlib.Omega.{arith}
-use mathlib.Core.Path.{_≡_, refl, sym, ap, ap₂, _∙_, subst}
+use mathlib.Core.Path.{_≡_, refl, sym, ap, ap₂, _∙_}
 use mathlib.Core.List.{List, [], _∷_}
 use mathlib.Core.Option.{Option, none, some}
-use mathlib.Core.Bool.{Bool, true, false, _&&_}
-use lib.Dec.{T, leb, leb→le, eqb}
+use mathlib.Core.Bool.{Bool, _&&_}
+use lib.Dec.{T, leb, leb→le}
 use mir.Facts.{and-yes}
-use borrow.Author.Tests.{eqb-true}
 use lib.ListN.{length, getD, take}
 use lib.Seq.{getD-take}
 use Rattle.query.specs.Syntax as syntax
 use Rattle.query.specs.Syntax.{Path, Filter}
 use Rattle.query.specs.Kind.{Sort, path, filter, Operand, unused, of, Kind, Row, kinds, find, rowOf}
 use Rattle.query.specs.Table.{Entry, Entries, entryAt, rowAt, OperandField, EntryRight, HasSort, Meant, a-path, a-filter, thePath, theFilter, pathIn, filterIn, build, mean, meanings, pathAt, filterAt}
+use Rattle.query.proofs.Rows.{found}
 use Rattle.query.proofs.Tables.{read-at}
 
 -- entry i of a table is x
@@ -120,44 +120,23 @@ module _ (es : Entries) (i : ℕ) (within : i < length es) (x : Entry) (at : ent
         let r = right-operand 22 _ refl is right in
         ((l, r), filter-stands 22 _ refl is ∙ ap₂ syntax.or (filter-before (x .left) (l .0)) (filter-before (x .right) (r .0)))
 
--- The kinds of paths are 1 to 9, those of filters 16 to 22: one computed test of the list, and a law that turns it into the rule of each row.
+-- The kinds of paths are 1 to 9, those of filters 16 to 22: so it is of each row of the list.
 unfoldable inRange : Sort → ℕ → Bool
 inRange path n = leb 1 n && leb n 9
 inRange filter n = leb 16 n && leb n 22
 
-unfoldable numbered : Row → Bool
-unfolding inRange
-numbered row = inRange (row .sort) (row .number)
-
 between : (low high n : ℕ) → T (leb low n && leb n high) → (low ≤ n) × (n ≤ high)
 between low high n t = let (l, h) = and-yes (leb low n) (leb n high) t in (leb→le low n l, leb→le n high h)
-
-unfoldable every : (Row → Bool) → List Row → Bool
-every test [] = true
-every test (row ∷ more) = test row && every test more
-
--- a row that is found has the number that was looked for, and passes the test
-found : (test : Row → Bool) (n : ℕ) (rows : List Row) {row : Row} → T (every test rows) → find n rows ≡ some row
-    → T (test row) × (row .number ≡ n)
-unfolding every find
-found test n [] t e = let z : _≡_ {A = ℕ} 0 1 = cc in absurd (omega arith)
-found test n (first ∷ more) {row} t e =
-    let (here, rest) = and-yes (test first) (every test more) t in
-    go here (found test n more rest) (eqb n (first .number)) refl e
-  where
-    go : T (test first) → (find n more ≡ some row → T (test row) × (row .number ≡ n))
-        → (b : Bool) → eqb n (first .number) ≡ b → elim b [ true ↦ some first | false ↦ find n more ] ≡ some row
-        → T (test row) × (row .number ≡ n)
-    go here rest true h x =
-        let same : first ≡ row = cc in
-        (subst (λ (r : Row). T (test r)) same here, ap (λ (r : Row). r .number) (sym same) ∙ sym (eqb-true n (first .number) h))
-    go here rest false h x = rest x
 
 module _ (es : Entries) (i : ℕ) where
   -- an entry of a sort has a number in the sort's range
   in-range : {s : Sort} → HasSort es i s → T (inRange s (entryAt es i .kind))
-  unfolding rowAt kinds every numbered
-  in-range h = let (t, n) = found numbered (entryAt es i .kind) kinds tt (h .listed) in rw (h .sort, n) at t
+  unfolding rowAt kinds inRange
+  in-range h =
+      let (t, n) =
+          found (λ row. T (inRange (row .sort) (row .number))) (entryAt es i .kind) kinds
+          (tt, (tt, (tt, (tt, (tt, (tt, (tt, (tt, (tt, (tt, (tt, (tt, (tt, (tt, (tt, (tt, tt)))))))))))))))) (h .listed) in
+      rw (h .sort, n) at t
 
   pub path-kind : HasSort es i path → (1 ≤ entryAt es i .kind) × (entryAt es i .kind ≤ 9)
   unfolding inRange

@@ -18,9 +18,10 @@ use Rattle.view.specs.Promise.{Annotated}
 use Rattle.checks.proofs.Records.{records-length}
 use Rattle.written.specs.Written.{preludeSize, written}
 use Rattle.written.proofs.Stands.{Sound}
-use Rattle.written.proofs.Table.{written-size, table-size, table-sound, table-stands}
+use Rattle.written.proofs.Table.{table-size, table-sound, table-stands}
 use Rattle.written.proofs.Back.{table-back}
 use Rattle.writer.specs.Laid.{laid, Room, LabelBytes, Numbers, AllInOrder}
+use Rattle.writer.proofs.Recording.{written-size}
 use Rattle.rewrite.specs.Promise.{Faithful, Rewritten}
 use Rattle.rewrite.proofs.Faithful.{visibleOn, rewritten-faithful}
 

@@ -4,10 +4,10 @@ use native.Mathlib.Nat.{le-refl}
 use native.Mathlib.Omega.{arith}
 use mathlib.Core.Path.{_≡_, refl, sym, ap, _∙_, subst}
 use mathlib.Core.List.{List, [], _∷_, _++_, map}
-use lib.ListN.{length, drop, length-append, length-drop}
+use lib.ListN.{length, drop, length-append, length-drop, length-map}
 use lib.Seq.{drop-cons, drop-length}
 use Rattle.reply.specs.Bytes.{Bytes}
-use Rattle.query.specs.Table.{Entries, entryBytes}
+use Rattle.query.specs.Table.{Entry, Entries, entryBytes}
 use Rattle.checks.specs.declared.annotation.Record.{Record}
 use Rattle.checks.specs.Fields.{Fields}
 use Rattle.view.specs.Annotation.{AnnotationRecord, recordAt}
@@ -77,3 +77,10 @@ behind-laid start first rs query {at = at} count front own =
     let size = prelude-size first rs in
     let axes : first + at - 58 ≡ first + 1 + 9 * length rs = omega arith in
     laid-more start 0 (prelude first rs) _ front (omega arith) (rw (axes, count) at own)
+
+-- the prelude, and an entry for each of the query's
+pub written-size : (first : ℕ) (records : List AnnotationRecord) (query : Entries) → length (written first records query) ≡ preludeSize (length records) + length query
+unfolding written
+written-size first records query =
+    let view : Entry → Entry = viewEntry (first + 1 + 9 * length records) (first + preludeSize (length records)) in
+    omega (arith, length-append (prelude first records) (map view query), length-map query view, prelude-size first records)

@@ -11,10 +11,10 @@ use Rattle.query.specs.Syntax as syntax
 use Rattle.query.specs.Syntax.{Path, Filter}
 use Rattle.query.specs.Kind.{Sort, path, filter, Operand, unused, of, Kind, self, child, parent, next, previous, stay, then, either, star, labelled, leads, always, never, not, and, or, Row, kinds, rowOf}
 use Rattle.query.specs.Table.{Entry, Entries, entryAt, rowAt, HasSort, OperandField, EntryRight, readOn, height, heightAt, Meant, a-path, a-filter, thePath, theFilter, pathIn, filterIn, build, mean, meanings}
+use Rattle.query.proofs.Rows.{rowFor, row-found}
 use Rattle.query.proofs.Tables.{read-length, read-append, read-prefix}
 use Rattle.rewriting.proofs.Rewriting.{rewritten, rewrittenFilter}
 use Rattle.written.specs.Written.{raise, axisRow, chosen, viewEntry}
-use Rattle.written.proofs.Rows.{rowFor, row-found}
 use Rattle.written.proofs.Stands.{nothing, sortFor, Sound, at-end, sound-end, Behind, behind-as, Named, Ordered, Stood, stood-kept, Next, next-end, stood-end, entry-behind, mean-listed, height-listed, meant-sorted}
 use Rattle.written.proofs.Axes.{seenBy, rowsMeant, rowsHeights, AxisRow, row-down, row-up, row-forwards, row-backwards, axis-behind}
 

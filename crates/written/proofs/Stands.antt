@@ -12,11 +12,11 @@ use lib.Seq.{getD-at}
 use Rattle.query.specs.Syntax as syntax
 use Rattle.query.specs.Kind.{Sort, path, filter, Operand, unused, of, Kind, self, child, parent, next, previous, stay, then, either, star, labelled, leads, always, never, not, and, or, Row, kinds, find, rowOf}
 use Rattle.query.specs.Table.{Entry, Entries, entryAt, rowAt, HasSort, LabelField, OperandField, EntryRight, readOn, operandHeight, height, heightAt, Meant, a-path, a-filter, thePath, theFilter, pathIn, filterIn, build, mean, meanings, filterAt}
+use Rattle.query.proofs.Rows.{rowFor, row-found}
 use Rattle.query.proofs.Tables.{read-length, read-append, read-prefix, read-at}
 use Rattle.query.proofs.Appended.{sort-kept, right-kept, AllRight, sort-at-end, right-at-end}
 use Rattle.tables.specs.Shape.{operandNumber, leftOf, rightOf}
 use Rattle.written.specs.Written.{moved, renumber}
-use Rattle.written.proofs.Rows.{rowFor, row-found}
 
 -- what stands where there is nothing
 abbrev pub nothing : Meant

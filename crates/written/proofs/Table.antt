@@ -8,7 +8,7 @@ use mathlib.Core.List.{List, [], _∷_, _++_, map, append-assoc, append-nil}
 use lib.ListN.{length, getD, length-append, length-map, List·getD-map}
 use Rattle.query.specs.Syntax.{Path, Filter}
 use Rattle.query.specs.Kind.{path}
-use Rattle.query.specs.Table.{Entry, Entries, HasSort, EntryRight, height, heightAt, readOn, Meant, thePath, pathIn, mean, meanings, pathAt, queryOf}
+use Rattle.query.specs.Table.{Entries, HasSort, EntryRight, height, heightAt, readOn, Meant, thePath, pathIn, mean, meanings, pathAt, queryOf}
 use Rattle.query.proofs.Tables.{read-length}
 use Rattle.view.specs.Annotation.{AnnotationRecord, recordAt, RecordForm, Rule}
 use Rattle.rewriting.proofs.Rewriting.{rewritten}
@@ -30,13 +30,6 @@ pub prelude-size : (first : ℕ) (records : List AnnotationRecord) → length (p
 unfolding prelude axisRows
 prelude-size first records =
     omega (arith, length-append (recordsEntries first records) (map (raise (first + 1 + 9 * length records)) axisRows), records-many first records)
-
--- the prelude, and an entry for each of the query's
-pub written-size : (first : ℕ) (records : List AnnotationRecord) (query : Entries) → length (written first records query) ≡ preludeSize (length records) + length query
-unfolding written
-written-size first records query =
-    let view : Entry → Entry = viewEntry (first + 1 + 9 * length records) (first + preludeSize (length records)) in
-    omega (arith, length-append (prelude first records) (map view query), length-map query view, prelude-size first records)
 
 -- The records' entries, behind the filter table and the opening.
 module _ {filters : Entries} {h : ℕ} (sound : Sound filters h) where

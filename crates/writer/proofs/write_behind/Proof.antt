@@ -2,8 +2,7 @@
 use native.Mathlib.Omega.{arith}
 use Rattle.query.specs.Table.{entries}
 use Rattle.view.specs.Annotation.{records}
-use Rattle.written.proofs.Table.{written-size}
-use Rattle.writer.proofs.Recording.{behind-laid}
+use Rattle.writer.proofs.Recording.{written-size, behind-laid}
 use borrow.Author.Needs.{needs}
 use Rattle.writer.proofs.write_behind.Statement.{statement}
 use Rattle.writer.proofs.write_behind.Tie as tie

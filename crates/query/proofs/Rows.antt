@@ -35,12 +35,12 @@ unfolding placeOf
 rowFor kind = getD kinds (placeOf kind) (record { number = 0; kind = self; sort = path; left = unused; right = unused; label = false })
 
 -- what holds of each row of a list
-abbrev Each : (Row → Type 0) → List Row → Type 0
+abbrev pub Each : (Row → Type 0) → List Row → Type 0
 Each P [] = Unit {0}
 Each P (row ∷ more) = P row × Each P more
 
 -- holds of a row that is found, which has the number looked for
-found : (P : Row → Type 0) (n : ℕ) (rows : List Row) {row : Row} → Each P rows → find n rows ≡ some row → P row × (row .number ≡ n)
+pub found : (P : Row → Type 0) (n : ℕ) (rows : List Row) {row : Row} → Each P rows → find n rows ≡ some row → P row × (row .number ≡ n)
 unfolding find
 found P n [] each e = let z : _≡_ {A = ℕ} 0 1 = cc in absurd (omega arith)
 found P n (first ∷ more) {row} each e = go (found P n more (each .1)) (eqb n (first .number)) refl e
