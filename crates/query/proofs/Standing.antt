@@ -134,8 +134,8 @@ module _ (es : Entries) (i : ℕ) where
   unfolding rowAt kinds inRange
   in-range h =
       let (t, n) =
-          found (λ row. T (inRange (row .sort) (row .number))) (entryAt es i .kind) kinds
-          (tt, (tt, (tt, (tt, (tt, (tt, (tt, (tt, (tt, (tt, (tt, (tt, (tt, (tt, (tt, (tt, tt)))))))))))))))) (h .listed) in
+      found (λ row. T (inRange (row .sort) (row .number))) (entryAt es i .kind) kinds
+      (tt, (tt, (tt, (tt, (tt, (tt, (tt, (tt, (tt, (tt, (tt, (tt, (tt, (tt, (tt, (tt, tt)))))))))))))))) (h .listed) in
       rw (h .sort, n) at t
 
   pub path-kind : HasSort es i path → (1 ≤ entryAt es i .kind) × (entryAt es i .kind ≤ 9)

@@ -1,5 +1,5 @@
--- What is in the room once the filter table is copied and the rest is written behind it: a table that call 3 accepts, and that does on every roll what the
--- query does on the view. Assumes nothing.
+-- What is in the room once the filter table is copied and the rest is written behind it: a table that call 3 accepts, and that does on
+-- every roll what the query does on the view. Assumes nothing.
 use Prim.Native.Nat.{ℕ, _+_, _-_, _*_, _/_, _≤_, _<_}
 use native.Mathlib.Nat.{zero-add}
 use native.Mathlib.Omega.{arith}
@@ -60,16 +60,20 @@ module _ (before filters copied : Bytes) (size : ℕ) (is : size ≡ length filt
       let many = bytes-length es in
       let rest : length (drop size before) ≡ length before - size = length-drop size before in
       let inside : 0 + length (entryBytes es) ≤ length (drop size before) = omega arith in
-      let laid-there : part ≡ entryBytes es ++ drop (length (entryBytes es)) (drop size before) = rw zero-add at (after ∙ ap (λ (b : Bytes). laid b 0 es) part-lent ∙ sets-eq (entryBytes es) (drop size before) 0 inside) in
+      let laid-there : part ≡ entryBytes es ++ drop (length (entryBytes es)) (drop size before) =
+      rw zero-add at (after ∙ ap (λ (b : Bytes). laid b 0 es) part-lent ∙ sets-eq (entryBytes es) (drop size before) 0 inside) in
       let short : length (drop size before) ≤ length copied - size = omega (arith, copied-length) in
       let none : drop (length copied - size) (drop size copied) ≡ [] = rw behind-copied (drop-of-length-le (drop size before) short) in
       let head : take size copied ≡ filters = ap (take size) front-copied ∙ take-at filters (drop size before) size (sym is) in
       let both = length-append filters (entryBytes es) in
       let behind : drop (length (entryBytes es)) (drop size before) ≡ drop (length (filters ++ entryBytes es)) before =
-      drop-drop (length (entryBytes es)) size before ∙ ap (λ (n : ℕ). drop n before) (ap (λ (n : ℕ). n + length (entryBytes es)) is ∙ sym both) in
+      drop-drop (length (entryBytes es)) size before
+      ∙ ap (λ (n : ℕ). drop n before) (ap (λ (n : ℕ). n + length (entryBytes es)) is ∙ sym both) in
       record {
         room = omega arith;
-        bytes = rw (head, none, append-nil, laid-there, behind) (sym (append-assoc filters (entryBytes es) (drop (length (filters ++ entryBytes es)) before)));
+        bytes =
+            rw (head, none, append-nil, laid-there, behind)
+            (sym (append-assoc filters (entryBytes es) (drop (length (filters ++ entryBytes es)) before)));
       }
 
 module _ {annotation filters query : Bytes} (annotated : Annotated annotation filters) (asked : Query curators query) where
@@ -94,7 +98,8 @@ module _ {annotation filters query : Bytes} (annotated : Annotated annotation fi
   few-records = omega (arith, records-length annotation, entries-length annotation, annotated .records .size .most)
 
   few-own : (1 ≤ length own) × (length own ≤ 256)
-  few-own = let e = entries-length query in let s = asked .size .size in (omega (arith, asked .size .some, s .multiple), omega (arith, s .most))
+  few-own = let e = entries-length query in let s =
+      asked .size .size in (omega (arith, asked .size .some, s .multiple), omega (arith, s .most))
 
   -- what is known of each
   sound : Sound front 16
@@ -117,7 +122,8 @@ module _ {annotation filters query : Bytes} (annotated : Annotated annotation fi
   few = let f = few-filters in let r = few-records in let q = few-own in omega (arith, table-size sound rs forms own-right)
 
   table-sound-here : Sound (front ++ behind) (72 + length rs)
-  table-sound-here = let s = table-sound sound rs forms own-right {high = 32} (omega arith) own-low in subst (Sound (front ++ behind)) (omega arith) s
+  table-sound-here = let s =
+      table-sound sound rs forms own-right {high = 32} (omega arith) own-low in subst (Sound (front ++ behind)) (omega arith) s
 
   -- the bytes are read back as the table
   back : entries (filters ++ entryBytes behind) ≡ front ++ behind
@@ -170,7 +176,8 @@ module _ {annotation filters query : Bytes} (annotated : Annotated annotation fi
       (copy : copied ≡ take (length filters) filters ++ drop (length filters) before) where
     -- what the writer is given
     pub writer-given : {first : ℕ} → first ≡ length front
-        → Room (lent copied size) 0 (preludeSize (length rs) + length own) × (LabelBytes annotation × (AllInOrder query × Numbers first (preludeSize (length rs) + length own)))
+        → let many : ℕ = preludeSize (length rs) + length own in
+        Room (lent copied size) 0 many × (LabelBytes annotation × (AllInOrder query × Numbers first many))
     writer-given e =
         let fits = fits-room room in
         let f = few in
@@ -183,7 +190,8 @@ module _ {annotation filters query : Bytes} (annotated : Annotated annotation fi
         label-bytes i l = let f = forms i l in record { kind = omega (arith, f .parent .most); label = omega (arith, f .child .most) }
 
     -- what it makes
-    pub made : {first more : ℕ} {after : Bytes} → first ≡ length front → more ≡ length (written first rs own) → after ≡ laid (lent copied size) 0 (written first rs own)
+    pub made : {first more : ℕ} {after : Bytes} → first ≡ length front → more ≡ length (written first rs own)
+        → after ≡ laid (lent copied size) 0 (written first rs own)
         → Rewritten annotation filters query before (first + more) (restored copied size after)
     made {after = after} e many laid-there =
         record {

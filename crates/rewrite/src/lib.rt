@@ -1,4 +1,5 @@
-// Call 5: a curator's query is rewritten to one that does on the roll what hers does on the view. Every check comes before the lent room is written.
+// Call 5: a curator's query is rewritten to one that does on the roll what hers does on the view. The lent room is written only once every
+// check has passed.
 use bytes::copy;
 use checks::ready_to_rewrite;
 use reply::Reply;
@@ -11,7 +12,8 @@ ghost use Rattle.query.specs.Fault.{curators, Query};
 ghost use Rattle.view.specs.Promise.{Annotated};
 ghost use Rattle.rewrite.specs.Promise.{Rewritten, RewriteGiven};
 
-// "The rewritten table begins with the filter table's entries, unchanged. What follows is written behind them." Gives the number of entries.
+// "The rewritten table begins with the filter table's entries, unchanged. What follows is written behind them." Gives the number of
+// entries.
 pub fn write_rewritten(annotation: &[u8], filters: &[u8], query: &[u8], room: &mut [u8]) -> usize
     requires { ⌜ Annotated (now annotation) (now filters) × Query curators (now query) ⌝ }
     requires { ⌜ 6144 ≤ length (now room) ⌝ }

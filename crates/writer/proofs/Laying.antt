@@ -15,7 +15,8 @@ use Rattle.writer.specs.Laid.{laid, fields}
 -- bytes stored behind bytes
 stored-on : (out : Bytes) (i : ℕ) (b more : Bytes) → sets (sets out i b) (i + length b) more ≡ sets out i (b ++ more)
 stored-on out i [] more = ap (λ (k : ℕ). sets out k more) (omega arith)
-stored-on out i (x ∷ b) more = ap (λ (k : ℕ). sets (sets (set out i x) (suc i) b) k more) (omega arith) ∙ stored-on (set out i x) (suc i) b more
+stored-on out i (x ∷ b) more =
+    ap (λ (k : ℕ). sets (sets (set out i x) (suc i) b) k more) (omega arith) ∙ stored-on (set out i x) (suc i) b more
 
 module _ (out : Bytes) (n : ℕ) (es : Entries) where
   -- what is laid keeps the length
@@ -29,12 +30,15 @@ module _ (out : Bytes) (n : ℕ) (es : Entries) where
       rw (behind, bytes-of-both es fs) (stored-on out (6 * n) (entryBytes es) (entryBytes fs))
 
   -- the same, of bytes that have a name
-  pub laid-more : {m : ℕ} (fs : Entries) {now next : Bytes} → now ≡ laid out n es → m ≡ n + length es → next ≡ laid now m fs → next ≡ laid out n (es ++ fs)
+  pub laid-more : {m : ℕ} (fs : Entries) {now next : Bytes} → now ≡ laid out n es → m ≡ n + length es → next ≡ laid now m fs
+      → next ≡ laid out n (es ++ fs)
   laid-more {m} fs before e after = after ∙ ap (λ (b : Bytes). laid b m fs) before ∙ laid-on fs e
 
 -- the bytes of an entry, stored one by one
 pub stored : (out : Bytes) (n kind label left right : ℕ)
-    → set (set (set (set (set (set out (6 * n) kind) (6 * n + 1) label) (6 * n + 2) (left % 256)) (6 * n + 3) (left / 256 % 256)) (6 * n + 4) (right % 256)) (6 * n + 5) (right / 256 % 256)
+    → let at : ℕ = 6 * n in
+    let first : Bytes = set (set (set out at kind) (at + 1) label) (at + 2) (left % 256) in
+    set (set (set first (at + 3) (left / 256 % 256)) (at + 4) (right % 256)) (at + 5) (right / 256 % 256)
     ≡ laid out n (fields kind label left right ∷ [])
 unfolding entryBytes twoBytes
 stored out n kind label left right = simp towards-suc
@@ -49,12 +53,14 @@ laid-step out n es d k l before after =
 -- Entries that are made one by one from those of a list: k of them are written.
 module _ (out : Bytes) (n : ℕ) (f : Entry → Entry) (es : Entries) (d : Entry) where
   -- then one more
-  pub laid-next : {k : ℕ} {now next : Bytes} → k < length es → now ≡ laid out n (map f (take k es)) → next ≡ laid now (n + k) (f (getD es k d) ∷ [])
+  pub laid-next : {k : ℕ} {now next : Bytes} → k < length es → now ≡ laid out n (map f (take k es))
+      → next ≡ laid now (n + k) (f (getD es k d) ∷ [])
       → next ≡ laid out n (map f (take (k + 1) es))
   laid-next {k} l before after =
       let size : length (map f (take k es)) ≡ k = length-map (take k es) f ∙ length-take-le k es (le-of-lt l) in
       laid-more out n (map f (take k es)) (f (getD es k d) ∷ []) before (ap (λ (i : ℕ). n + i) (sym size)) after
-      ∙ ap (laid out n) (sym (ap (map f) (ap (λ (i : ℕ). take i es) (add-one k) ∙ take-suc es k d l) ∙ map-append f (take k es) (getD es k d ∷ [])))
+      ∙ ap (laid out n)
+      (sym (ap (map f) (ap (λ (i : ℕ). take i es) (add-one k) ∙ take-suc es k d l) ∙ map-append f (take k es) (getD es k d ∷ [])))
 
   -- and at the end all of them
   pub laid-all : {k : ℕ} {now : Bytes} → length es ≤ k → now ≡ laid out n (map f (take k es)) → now ≡ laid out n (map f es)

@@ -1,4 +1,5 @@
--- What is written for an entry of the query, by the number of its kind, and that the fields of an entry in order are small. Assumes nothing.
+-- What is written for an entry of the query, by the number of its kind, and that the fields of an entry in order are small. Assumes
+-- nothing.
 use Prim.Native.Nat.{ℕ, zero, suc, _≤_, _<_}
 use native.Mathlib.Omega.{arith}
 use mathlib.Core.Path.{_≡_, refl, sym, ap, _∙_}
@@ -39,7 +40,8 @@ module _ {e : table.Entry} {own : Entry} (read : Fields e own) (axes distance : 
   along is = ap (chosen axes (raise distance e)) (sym is ∙ read .kind)
 
   -- of any other, itself
-  pub other : ¬ (own .kind ≡ 2) → ¬ (own .kind ≡ 3) → ¬ (own .kind ≡ 4) → ¬ (own .kind ≡ 5) → raise distance (given own) ≡ viewEntry axes distance e
+  pub other : ¬ (own .kind ≡ 2) → ¬ (own .kind ≡ 3) → ¬ (own .kind ≡ 4) → ¬ (own .kind ≡ 5)
+      → raise distance (given own) ≡ viewEntry axes distance e
   other a b c d = ap (raise distance) (was-read read) ∙ sym (others axes (raise distance e) (own .kind) a b c d) ∙ along refl
 
 -- The fields of an entry in order.

@@ -11,7 +11,7 @@ use Rattle.query.specs.Table.{Entry, Entries, entryBytes}
 use Rattle.checks.specs.declared.annotation.Record.{Record}
 use Rattle.checks.specs.Fields.{Fields}
 use Rattle.view.specs.Annotation.{AnnotationRecord, recordAt}
-use Rattle.written.specs.Written.{raise, opening, recordEntries, recordsEntries, axisRows, prelude, preludeSize, viewEntry, written}
+use Rattle.written.specs.Written.{raise, opening, nineEntries, recordEntries, recordsEntries, axisRows, prelude, preludeSize, viewEntry, written}
 use Rattle.written.proofs.Table.{records-many, prelude-size}
 use Rattle.writer.specs.Laid.{laid}
 use Rattle.writer.proofs.Laying.{laid-more, laid-same}
@@ -30,8 +30,9 @@ module _ {start : Bytes} {first : ℕ} {rs : List AnnotationRecord} where
   none-recorded e = rw e (record { inside = le-refl _; place = omega arith; same = refl; bytes = rw (drop-length rs) refl })
 
   -- then one more
-  pub one-recorded : {now next : Bytes} {at i : ℕ} {own : Record} → 0 < i → Fields (recordAt rs (i - 1)) own → Recorded start first rs now at i
-      → next ≡ laid now at (recordEntries first (first + at) (record { parent = own .parent; child = own .child; filter = own .filter; rest = 0 }))
+  pub one-recorded : {now next : Bytes} {at i : ℕ} {own : Record} → 0 < i → Fields (recordAt rs (i - 1)) own
+      → Recorded start first rs now at i
+      → next ≡ laid now at (nineEntries first (first + at) (own .parent) (own .child) (own .filter))
       → Recorded start first rs next (at + 9) (i - 1)
   unfolding recordsEntries recordAt
   one-recorded {next = next} {at = at} {i = i} {own = own} some fields before after =
@@ -44,21 +45,26 @@ module _ {start : Bytes} {first : ℕ} {rs : List AnnotationRecord} where
       let size : length more ≡ length rs - i = length-drop i rs in
       let many = records-many first more in
       let number : first + at ≡ first + 3 + 9 * length more = omega arith in
-      let same : recordEntries first (first + at) (record { parent = own .parent; child = own .child; filter = own .filter; rest = 0 }) ≡ recordEntries first (first + 3 + 9 * length more) r =
+      let same : recordEntries first (first + at)
+      (record { parent = own .parent; child = own .child; filter = own .filter; rest = 0 }) ≡ recordEntries first
+      (first + 3 + 9 * length more) r =
       rw (number, fields .parent, fields .child, fields .filter) refl in
       let all : next ≡ laid start 3 (recordsEntries first (drop (i - 1) rs)) =
       rw (left, ← same) (laid-more start 3 (recordsEntries first more) _ (before .bytes) (omega arith) after) in
       record { inside = omega arith; place = omega arith; same = laid-same start 3 _ all; bytes = all }
 
   -- in the end all are written
-  pub all-recorded : {now : Bytes} {at i : ℕ} → i ≤ 0 → Recorded start first rs now at i → (at ≡ 3 + 9 * length rs) × (now ≡ laid start 3 (recordsEntries first rs))
+  pub all-recorded : {now : Bytes} {at i : ℕ} → i ≤ 0 → Recorded start first rs now at i
+      → (at ≡ 3 + 9 * length rs) × (now ≡ laid start 3 (recordsEntries first rs))
   all-recorded {now} {i = i} end all =
       let none : i ≡ 0 = omega arith in
       (omega (arith, all .place), subst (λ (k : ℕ). now ≡ laid start 3 (recordsEntries first (drop k rs))) none (all .bytes))
 
 -- the opening, the records and the rows, one behind the other
-pub prelude-laid : (start : Bytes) (first : ℕ) (rs : List AnnotationRecord) {opened recorded now : Bytes} {at : ℕ} → opened ≡ laid start 0 opening
-    → recorded ≡ laid opened 3 (recordsEntries first rs) → at ≡ 3 + 9 * length rs → now ≡ laid recorded at (map (raise (first + at - 2)) axisRows)
+pub prelude-laid : (start : Bytes) (first : ℕ) (rs : List AnnotationRecord) {opened recorded now : Bytes} {at : ℕ}
+    → opened ≡ laid start 0 opening
+    → recorded ≡ laid opened 3 (recordsEntries first rs) → at ≡ 3 + 9 * length rs
+    → now ≡ laid recorded at (map (raise (first + at - 2)) axisRows)
     → now ≡ laid start 0 (prelude first rs)
 unfolding prelude
 prelude-laid start first rs {now = now} {at = at} first-three behind place rows =
@@ -69,7 +75,8 @@ prelude-laid start first rs {now = now} {at = at} first-three behind place rows 
     laid-more start 0 (opening ++ more) (map (raise (first + 1 + 9 * length rs)) axisRows) both (omega arith) (rw far at rows)
 
 -- and the query's entries behind them
-pub behind-laid : (start : Bytes) (first : ℕ) (rs : List AnnotationRecord) (query : Entries) {before now : Bytes} {at : ℕ} → at ≡ preludeSize (length rs)
+pub behind-laid : (start : Bytes) (first : ℕ) (rs : List AnnotationRecord) (query : Entries) {before now : Bytes} {at : ℕ}
+    → at ≡ preludeSize (length rs)
     → before ≡ laid start 0 (prelude first rs) → now ≡ laid before at (map (viewEntry (first + at - 58) (first + at)) query)
     → now ≡ laid start 0 (written first rs query)
 unfolding written
@@ -79,7 +86,8 @@ behind-laid start first rs query {at = at} count front own =
     laid-more start 0 (prelude first rs) _ front (omega arith) (rw (axes, count) at own)
 
 -- the prelude, and an entry for each of the query's
-pub written-size : (first : ℕ) (records : List AnnotationRecord) (query : Entries) → length (written first records query) ≡ preludeSize (length records) + length query
+pub written-size : (first : ℕ) (records : List AnnotationRecord) (query : Entries)
+    → length (written first records query) ≡ preludeSize (length records) + length query
 unfolding written
 written-size first records query =
     let view : Entry → Entry = viewEntry (first + 1 + 9 * length records) (first + preludeSize (length records)) in

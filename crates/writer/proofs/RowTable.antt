@@ -22,4 +22,5 @@ back = refl
 
 -- a table of all rows is right at each of them
 pub table-right : (rows : List Row) → rows ≡ map rowOf axisRows → (k : ℕ) → entryOf (getD rows k (0, 0, 0)) ≡ axisRow k
-table-right rows e k = sym (List·getD-map entryOf rows k (0, 0, 0)) ∙ ap (λ (es : Entries). getD es k (entry 0 0 0)) (ap (map entryOf) e ∙ back)
+table-right rows e k =
+    sym (List·getD-map entryOf rows k (0, 0, 0)) ∙ ap (λ (es : Entries). getD es k (entry 0 0 0)) (ap (map entryOf) e ∙ back)

@@ -1,5 +1,5 @@
--- What the writer leaves in the part of the room that it is lent, and what it must be given. Nothing here has to be believed: call 5's promise is stated
--- without it.
+-- What the writer leaves in the part of the room that it is lent, and what it must be given. Nothing here has to be believed: call 5's
+-- promise is stated without it.
 use Prim.Native.Nat.{ℕ, _+_, _*_, _≤_, _<_}
 use mathlib.Core.List.{[], _∷_}
 use lib.ListN.{length}
@@ -35,7 +35,9 @@ pub record Numbers (first many : ℕ) : Type 0 where
 
 -- the labels of every record are bytes
 abbrev pub LabelBytes : Bytes → Type 0
-LabelBytes annotation = (i : ℕ) → i < length (records annotation) → ByteFields (recordAt (records annotation) i .parent) (recordAt (records annotation) i .child)
+LabelBytes annotation =
+    (i : ℕ) → i < length (records annotation)
+    → ByteFields (recordAt (records annotation) i .parent) (recordAt (records annotation) i .child)
 
 -- every entry of a table is in order
 abbrev pub AllInOrder : Bytes → Type 0

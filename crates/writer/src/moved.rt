@@ -19,8 +19,8 @@ const FORWARDS: usize = 44;
 
 const BACKWARDS: usize = 55;
 
-// Writes what stands for entry i of the query, as entry `at` of the part: of a step along an axis a copy of the axis's last row.
-// The rows count from `axes`, and the query's entries stand `distance` further on.
+// Writes what stands for entry i of the query, as entry `at` of the part: of a step along an axis a copy of the axis's last row. The rows
+// count from `axes`, and the query's entries stand `distance` further on.
 fn put_view(out: &mut [u8], at: usize, query: &[u8], i: usize, axes: usize, distance: usize)
     requires { ⌜ Room (now out) at 1 ⌝ }
     requires { ⌜ EntryRight (entries (now query)) i ⌝ }

@@ -6,7 +6,7 @@ ghost use mathlib.Core.Path.{_≡_};
 ghost use Prim.Native.Nat.{_+_, _*_, _≤_};
 ghost use lib.ListN.{length};
 ghost use Rattle.view.specs.Annotation.{records};
-ghost use Rattle.written.specs.Written.{pairEntries, recordEntries, recordsEntries};
+ghost use Rattle.written.specs.Written.{pairEntries, nineEntries, recordsEntries};
 ghost use Rattle.writer.specs.Laid.{laid, Room, ByteFields, Short, LabelBytes, Numbers};
 
 // The kinds that are written here.
@@ -22,7 +22,8 @@ const AND: usize = 21;
 
 const OR: usize = 22;
 
-// Writes the six entries for a pair of labels, from entry `at` of the part on. `first` is the number of the part's first entry, the parent step.
+// Writes the six entries for a pair of labels, from entry `at` of the part on. The part's first entry is the parent step, and has the
+// number `first`.
 fn put_pair(out: &mut [u8], at: usize, first: usize, parent: usize, child: usize)
     requires { ⌜ Room (now out) at 6 ⌝ }
     requires { ⌜ ByteFields parent child ⌝ }
@@ -43,7 +44,7 @@ fn put_record(out: &mut [u8], at: usize, first: usize, parent: usize, child: usi
     requires { ⌜ Room (now out) at 9 ⌝ }
     requires { ⌜ ByteFields parent child ⌝ }
     requires { ⌜ (2 ≤ at) × (Short at × Short first) ⌝ }
-    ensures { λ _. ⌜ now (out .exit) ≡ laid (now (out .entry)) at (recordEntries first (first + at) (record { parent = parent; child = child; filter = filter; rest = 0 })) ⌝ }
+    ensures { λ _. ⌜ now (out .exit) ≡ laid (now (out .entry)) at (nineEntries first (first + at) parent child filter) ⌝ }
 {
     put_pair(out, at, first, parent, child);
     let b = first + at;

@@ -1,5 +1,5 @@
--- The rows for who is visible and for the four axes stand for the filter for visible and for the axes' formulas: computed once, over what the two entries
--- before them stand for. Assumes nothing.
+-- The rows for who is visible and for the four axes stand for the filter for visible and for the axes' formulas: computed once, over what
+-- the two entries before them stand for. Assumes nothing.
 use Prim.Native.Nat.{ℕ, zero, suc, _+_, _≤_, _<_}
 use native.Mathlib.Nat.{zero-add, add-zero}
 use native.Mathlib.Omega.{arith}
@@ -10,7 +10,7 @@ use lib.ListN.{length, getD}
 use Rattle.query.specs.Syntax.{Path, Filter, parent, stay, then, star, leads, not, or}
 use Rattle.query.specs.Kind.{kinds, find}
 use Rattle.query.specs.Table.{Entry, Entries, readOn, operandHeight, height, Meant, a-path, a-filter, thePath, theFilter, pathIn, filterIn, build, mean}
-use Rattle.axes.proofs.Formulas.{down, up, skip, onwards, forwards, back, backwards}
+use Rattle.axes.proofs.Formulas as formulas
 use Rattle.written.specs.Written.{raise, axisRows, axisRow}
 use Rattle.written.proofs.Stands.{nothing, Stands, Sound, Behind, behind-as, Ordered, Stood, Next, entry-behind}
 use Rattle.written.proofs.Patterns.{InTurn, pattern-stood, pattern-sound, turnTest, rowTest, namedTest, labelTest, sameSort, turn-tested, lowTest, low-tested}
@@ -47,29 +47,33 @@ pub record AxisRow (own shown : Filter) (row : Entry) (p : Path) : Type 0 where
   pub low : height rowsHeights row ≤ 19
 
 -- the four axes
+pub record AxisRows (own shown : Filter) : Type 0 where
+  pub down : AxisRow own shown (axisRow 18) (formulas.down (seenBy own shown))
+  pub up : AxisRow own shown (axisRow 22) (formulas.up (seenBy own shown))
+  pub forwards : AxisRow own shown (axisRow 44) (formulas.forwards (seenBy own shown))
+  pub backwards : AxisRow own shown (axisRow 55) (formulas.backwards (seenBy own shown))
+
 module _ (own shown : Filter) where
   alone : (row : Entry) → T (turnTest (rowsMeant own shown) (row ∷ [])) → Ordered (rowsMeant own shown) row
   unfolding InTurn
   alone row t = turn-tested (rowsMeant own shown) (row ∷ []) t .0
 
-  pub row-down : AxisRow own shown (axisRow 18) (down (seenBy own shown))
-  unfolding rowsMeant rowsHeights axisRows readOn mean build height operandHeight kinds find pathIn filterIn thePath theFilter turnTest rowTest namedTest labelTest sameSort down
-  row-down = record { ordered = alone (axisRow 18) tt; means = refl; low = lit≤ tt }
+  pub axis-rows : AxisRows own shown
+  unfolding rowsMeant rowsHeights axisRows readOn mean build height operandHeight kinds find pathIn filterIn thePath theFilter
+      turnTest rowTest namedTest labelTest sameSort
+      formulas.down formulas.up formulas.forwards formulas.backwards formulas.skip formulas.onwards formulas.back
+  axis-rows =
+      record {
+        down = record { ordered = alone (axisRow 18) tt; means = refl; low = lit≤ tt };
+        up = record { ordered = alone (axisRow 22) tt; means = refl; low = lit≤ tt };
+        forwards = record { ordered = alone (axisRow 44) tt; means = refl; low = lit≤ tt };
+        backwards = record { ordered = alone (axisRow 55) tt; means = refl; low = lit≤ tt };
+      }
 
-  pub row-up : AxisRow own shown (axisRow 22) (up (seenBy own shown))
-  unfolding rowsMeant rowsHeights axisRows readOn mean build height operandHeight kinds find pathIn filterIn thePath theFilter turnTest rowTest namedTest labelTest sameSort up
-  row-up = record { ordered = alone (axisRow 22) tt; means = refl; low = lit≤ tt }
-
-  pub row-forwards : AxisRow own shown (axisRow 44) (forwards (seenBy own shown))
-  unfolding rowsMeant rowsHeights axisRows readOn mean build height operandHeight kinds find pathIn filterIn thePath theFilter turnTest rowTest namedTest labelTest sameSort forwards onwards skip
-  row-forwards = record { ordered = alone (axisRow 44) tt; means = refl; low = lit≤ tt }
-
-  pub row-backwards : AxisRow own shown (axisRow 55) (backwards (seenBy own shown))
-  unfolding rowsMeant rowsHeights axisRows readOn mean build height operandHeight kinds find pathIn filterIn thePath theFilter turnTest rowTest namedTest labelTest sameSort backwards back
-  row-backwards = record { ordered = alone (axisRow 55) tt; means = refl; low = lit≤ tt }
-
--- The rows behind a table whose last two entries say whether some record is the node's and whether some record shows it, each at most c high.
-module _ {own shown : Filter} {table : Entries} {c d : ℕ} (size : length table ≡ 2 + d) (owns : Stands table d (a-filter own) c) (shows : Stands table (1 + d) (a-filter shown) c) where
+-- The rows behind a table whose last two entries say whether some record is the node's and whether some record shows it, each at most c
+-- high.
+module _ {own shown : Filter} {table : Entries} {c d : ℕ} (size : length table ≡ 2 + d) (owns : Stands table d (a-filter own) c)
+    (shows : Stands table (1 + d) (a-filter shown) c) where
   first-two : Stood c (λ x. x + d) (given own shown) (0 ∷ 0 ∷ []) table
   first-two = record { size = refl; each = at }
     where
@@ -91,6 +95,7 @@ module _ {own shown : Filter} {table : Entries} {c d : ℕ} (size : length table
   rows-sound l = pattern-sound axisRows (rows-in-turn own shown) rows-next first-two (λ k. omega (arith, rows-low k))
 
 -- a copy of an axis's row stands for the axis, behind any table in which the rows stand
-pub axis-behind : {own shown : Filter} {table : Entries} {c : ℕ} (d : ℕ) {row : Entry} {p : Path} → Stood c (λ x. x + d) (rowsMeant own shown) rowsHeights table → AxisRow own shown row p
+pub axis-behind : {own shown : Filter} {table : Entries} {c : ℕ} (d : ℕ) {row : Entry} {p : Path}
+    → Stood c (λ x. x + d) (rowsMeant own shown) rowsHeights table → AxisRow own shown row p
     → Behind table (raise d row) (a-path p) (c + 19)
 axis-behind {c = c} d stood axis = behind-as (omega (arith, axis .low)) (rw (axis .means) at (entry-behind stood (axis .ordered)))

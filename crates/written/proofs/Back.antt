@@ -18,7 +18,8 @@ operand-small es i unused x h = omega arith
 operand-small es i (of s) x h = omega (arith, h .0)
 
 -- the operands' numbers of entries in order are below the number of entries
-right-below : (front es : Entries) {bound : ℕ} → ((i : ℕ) → i < length (front ++ es) → EntryRight (front ++ es) i) → length (front ++ es) ≤ bound → Below bound es
+right-below : (front es : Entries) {bound : ℕ} → ((i : ℕ) → i < length (front ++ es) → EntryRight (front ++ es) i)
+    → length (front ++ es) ≤ bound → Below bound es
 unfolding entryAt
 right-below front [] right few = none
 right-below front (e ∷ es) {bound} right few =
@@ -31,7 +32,9 @@ right-below front (e ∷ es) {bound} right few =
     one {e = e} (omega arith) (omega arith) (right-below (front ++ e ∷ []) es (rw (← next) at right) (rw next few))
 
 -- Entries written behind a table that is whole, all of them in order.
-pub table-back : (front : Bytes) (es : Entries) {h : ℕ} → length front % 6 ≡ 0 → Sound (entries front ++ es) h → length (entries front ++ es) ≤ 65536
+pub table-back : (front : Bytes) (es : Entries) {h : ℕ} → length front % 6 ≡ 0 → Sound (entries front ++ es) h
+    → length (entries front ++ es) ≤ 65536
     → entries (front ++ entryBytes es) ≡ entries front ++ es
 table-back front es whole sound few =
-    entries-of-both front (entryBytes es) whole ∙ ap (λ (l : Entries). entries front ++ l) (entries-back (right-below (entries front) es (sound .right) few))
+    entries-of-both front (entryBytes es) whole
+    ∙ ap (λ (l : Entries). entries front ++ l) (entries-back (right-below (entries front) es (sound .right) few))

@@ -1,5 +1,5 @@
--- Entries whose operands are numbered in a list of things: written behind a table in which these things stand, each stands there for what it means in the list.
--- Whether the operands of such entries are in order is one computed test. Assumes nothing.
+-- Entries whose operands are numbered in a list of things: written behind a table in which these things stand, each stands there for what
+-- it means in the list. Whether the operands of such entries are in order is one computed test. Assumes nothing.
 use Prim.Native.Nat.{ℕ, zero, suc, _+_, _≤_, _<_}
 use native.Mathlib.Omega.{arith}
 use mathlib.Core.Path.{_≡_, refl, sym, ap, _∙_}
@@ -23,23 +23,28 @@ InTurn s (e ∷ more) = Ordered s e × InTurn (s ++ mean s e ∷ []) more
 
 module _ {c : ℕ} {to : ℕ → ℕ} where
   -- what the entries mean stands behind the table
-  pub pattern-stood : {s : List Meant} {hs : List ℕ} {table : Entries} (es : Entries) → InTurn s es → Next to s table → Stood c to s hs table
+  pub pattern-stood : {s : List Meant} {hs : List ℕ} {table : Entries} (es : Entries) → InTurn s es → Next to s table
+      → Stood c to s hs table
       → Stood c to (readOn mean s es) (readOn height hs es) (table ++ map (renumber to) es)
   unfolding InTurn readOn
   pattern-stood {table = table} [] turn next stood = rw (append-nil table) stood
   pattern-stood {s = s} {hs = hs} {table = table} (e ∷ more) (here, turn) next stood =
       rw (append-assoc table (renumber to e ∷ []) (map (renumber to) more))
-      at (pattern-stood more turn (next-end (mean s e) (renumber to e) next) (stood-end (mean s e) (renumber to e) next (height hs e) stood (entry-behind stood here)))
+      at
+      (pattern-stood more turn (next-end (mean s e) (renumber to e) next)
+      (stood-end (mean s e) (renumber to e) next (height hs e) stood (entry-behind stood here)))
 
   -- and the table stays sound, where no entry is too high
-  pub pattern-sound : {s : List Meant} {hs : List ℕ} {table : Entries} {h : ℕ} (es : Entries) → InTurn s es → Next to s table → Stood c to s hs table
+  pub pattern-sound : {s : List Meant} {hs : List ℕ} {table : Entries} {h : ℕ} (es : Entries) → InTurn s es → Next to s table
+      → Stood c to s hs table
       → ((k : ℕ) → c + getD (readOn height hs es) k 0 ≤ h) → Sound table h → Sound (table ++ map (renumber to) es) h
   unfolding InTurn readOn
   pattern-sound {table = table} [] turn next stood low sound = rw (append-nil table) sound
   pattern-sound {s = s} {hs = hs} {table = table} {h = h} (e ∷ more) (here, turn) next stood low sound =
       let new : List ℕ = hs ++ height hs e ∷ [] in
       let last : getD (readOn height new more) (length hs) 0 ≡ height hs e =
-      read-keeps height new more (length hs) 0 (omega (arith, length-append hs (height hs e ∷ []))) ∙ getD-at hs (height hs e) [] 0 (length hs) refl in
+      read-keeps height new more (length hs) 0 (omega (arith, length-append hs (height hs e ∷ [])))
+      ∙ getD-at hs (height hs e) [] 0 (length hs) refl in
       let fits : c + height hs e ≤ h = omega (arith, low (length hs), last) in
       let stands = stood-end (mean s e) (renumber to e) next (height hs e) stood (entry-behind stood here) in
       rw (append-assoc table (renumber to e ∷ []) (map (renumber to) more))
@@ -94,7 +99,8 @@ row-tested : (s : List Meant) (e : Entry) (row : Option Row) → rowOf (e .kind)
 unfolding rowTest
 row-tested s e none listed t = absurd t
 row-tested s e (some row) listed t =
-    let (label, operands) = and-yes (labelTest (row .label) (e .label)) (namedTest s (row .left) (e .left) && namedTest s (row .right) (e .right)) t in
+    let (label, operands) =
+    and-yes (labelTest (row .label) (e .label)) (namedTest s (row .left) (e .left) && namedTest s (row .right) (e .right)) t in
     let (left, right) = and-yes (namedTest s (row .left) (e .left)) (namedTest s (row .right) (e .right)) operands in
     record {
       row = row;

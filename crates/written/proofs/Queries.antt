@@ -1,5 +1,5 @@
--- The query's own entries: behind a table in which the axes' rows stand, the entry for each entry of the query stands for the rewriting of what that entry
--- stands for. By induction over the entries, each seen once. Assumes nothing.
+-- The query's own entries: behind a table in which the axes' rows stand, the entry for each entry of the query stands for the rewriting of
+-- what that entry stands for. By induction over the entries, each seen once. Assumes nothing.
 use Prim.Native.Nat.{ℕ, suc, _+_, _≤_, _<_}
 use native.Mathlib.Omega.{arith}
 use mathlib.Core.Path.{_≡_, refl, sym, ap, ap₂, _∙_, subst}
@@ -16,7 +16,7 @@ use Rattle.query.proofs.Tables.{read-length, read-append, read-prefix}
 use Rattle.rewriting.proofs.Rewriting.{rewritten, rewrittenFilter}
 use Rattle.written.specs.Written.{raise, axisRow, chosen, viewEntry}
 use Rattle.written.proofs.Stands.{nothing, sortFor, Sound, at-end, sound-end, Behind, behind-as, Named, Ordered, Stood, stood-kept, Next, next-end, stood-end, entry-behind, mean-listed, height-listed, meant-sorted}
-use Rattle.written.proofs.Axes.{seenBy, rowsMeant, rowsHeights, AxisRow, row-down, row-up, row-forwards, row-backwards, axis-behind}
+use Rattle.written.proofs.Axes.{seenBy, rowsMeant, rowsHeights, AxisRow, axis-rows, axis-behind}
 
 module _ (vis : Filter) where
   -- what an entry stands for, rewritten
@@ -53,36 +53,89 @@ module _ (vis : Filter) where
     unfolding filterIn
     filter-in x = ap theFilter (carry-at x) ∙ carry-filter (getD s x nothing)
 
-module _ (own shown : Filter) {c : ℕ} (d base : ℕ) {table : Entries} (rows : Stood c (λ x. x + d) (rowsMeant own shown) rowsHeights table) where
-  -- what is written for an entry of each kind, given that the operands of the entry stand for what they should
-  module _ (s : List Meant) (hs : List ℕ) (e : Entry) (stood : Stood (c + 18) (λ x. x + base) (map (carry (seenBy own shown)) s) hs table) (ordered : Ordered (map (carry (seenBy own shown)) s) e) where
+-- a kind that is no axis
+abbrev Plain : Kind → Type 0
+Plain self = Unit {0}
+Plain child = ⊥
+Plain parent = ⊥
+Plain next = ⊥
+Plain previous = ⊥
+Plain stay = Unit {0}
+Plain then = Unit {0}
+Plain either = Unit {0}
+Plain star = Unit {0}
+Plain labelled = Unit {0}
+Plain leads = Unit {0}
+Plain always = Unit {0}
+Plain never = Unit {0}
+Plain not = Unit {0}
+Plain and = Unit {0}
+Plain or = Unit {0}
+
+-- an entry of such a kind means among rewritten things the rewriting of what it means among these
+module _ (vis : Filter) (s : List Meant) (e : Entry) where
+  built : (kind : Kind) → Plain kind → build (map (carry vis) s) kind e ≡ carry vis (build s kind e)
+  unfolding build rewritten
+  built self plain = refl
+  built child plain = absurd plain
+  built parent plain = absurd plain
+  built next plain = absurd plain
+  built previous plain = absurd plain
+  built stay plain = ap (λ (f : Filter). a-path (syntax.stay f)) (filter-in vis s (e .left))
+  built then plain = ap₂ (λ (p q : Path). a-path (syntax.then p q)) (path-in vis s (e .left)) (path-in vis s (e .right))
+  built either plain = ap₂ (λ (p q : Path). a-path (syntax.either p q)) (path-in vis s (e .left)) (path-in vis s (e .right))
+  built star plain = ap (λ (p : Path). a-path (syntax.star p)) (path-in vis s (e .left))
+  built labelled plain = refl
+  built leads plain = ap (λ (p : Path). a-filter (syntax.leads p)) (path-in vis s (e .left))
+  built always plain = refl
+  built never plain = refl
+  built not plain = ap (λ (f : Filter). a-filter (syntax.not f)) (filter-in vis s (e .left))
+  built and plain = ap₂ (λ (f g : Filter). a-filter (syntax.and f g)) (filter-in vis s (e .left)) (filter-in vis s (e .right))
+  built or plain = ap₂ (λ (f g : Filter). a-filter (syntax.or f g)) (filter-in vis s (e .left)) (filter-in vis s (e .right))
+
+-- What is written for an entry, behind a table in which the axes' rows stand.
+module _ (own shown : Filter) {c : ℕ} (d base : ℕ) {table : Entries}
+    (rows : Stood c (λ x. x + d) (rowsMeant own shown) rowsHeights table) where
+  -- given that what its operands stand for is rewritten
+  module _ (s : List Meant) (hs : List ℕ) (e : Entry)
+      (stood : Stood (c + 18) (λ x. x + base) (map (carry (seenBy own shown)) s) hs table)
+      (ordered : Ordered (map (carry (seenBy own shown)) s) e) where
+    -- the entry written stands for x
+    abbrev For : Meant → Type 0
+    For x = Behind table (viewEntry d base e) x (c + 18 + height hs e)
+
     -- an entry that is no step along an axis keeps its kind
-    other : {x : Meant} → viewEntry d base e ≡ raise base e → mean (map (carry (seenBy own shown)) s) e ≡ x → Behind table (viewEntry d base e) x (c + 18 + height hs e)
-    other same means = rw (same, ← means) (entry-behind stood ordered)
+    other : (kind : Kind) → Plain kind → rowOf (e .kind) ≡ some (rowFor kind) → rowFor kind .kind ≡ kind → viewEntry d base e ≡ raise base e
+        → For (carry (seenBy own shown) (build s kind e))
+    other kind plain listed same kept =
+        let things : List Meant = map (carry (seenBy own shown)) s in
+        let means : mean things e ≡ carry (seenBy own shown) (build s kind e) =
+        mean-listed things e listed ∙ ap (λ (k : Kind). build things k e) same ∙ built (seenBy own shown) s e kind plain in
+        rw (kept, ← means) (entry-behind stood ordered)
 
     -- a step along an axis becomes that axis's last row
-    along : {p : Path} {row : Entry} → viewEntry d base e ≡ raise d row → AxisRow own shown row p → Behind table (viewEntry d base e) (a-path p) (c + 18 + height hs e)
+    along : {p : Path} {row : Entry} → viewEntry d base e ≡ raise d row → AxisRow own shown row p → For (a-path p)
     along same axis = rw same (behind-as (omega (arith, height-listed hs e (ordered .listed))) (axis-behind d rows axis))
 
     by-kind : (kind : Kind) → rowOf (e .kind) ≡ some (rowFor kind) → e .kind ≡ rowFor kind .number
-        → Behind table (viewEntry d base e) (carry (seenBy own shown) (build s kind e)) (c + 18 + height hs e)
+        → For (carry (seenBy own shown) (build s kind e))
     unfolding viewEntry chosen rowFor kinds build rewritten
-    by-kind self listed is = other (ap (chosen d (raise base e)) is) (mean-listed _ e listed)
-    by-kind child listed is = along (ap (chosen d (raise base e)) is) (row-down own shown)
-    by-kind parent listed is = along (ap (chosen d (raise base e)) is) (row-up own shown)
-    by-kind next listed is = along (ap (chosen d (raise base e)) is) (row-forwards own shown)
-    by-kind previous listed is = along (ap (chosen d (raise base e)) is) (row-backwards own shown)
-    by-kind stay listed is = other (ap (chosen d (raise base e)) is) (mean-listed _ e listed ∙ ap (λ (f : Filter). a-path (syntax.stay f)) (filter-in (seenBy own shown) s (e .left)))
-    by-kind then listed is = other (ap (chosen d (raise base e)) is) (mean-listed _ e listed ∙ ap₂ (λ (p q : Path). a-path (syntax.then p q)) (path-in (seenBy own shown) s (e .left)) (path-in (seenBy own shown) s (e .right)))
-    by-kind either listed is = other (ap (chosen d (raise base e)) is) (mean-listed _ e listed ∙ ap₂ (λ (p q : Path). a-path (syntax.either p q)) (path-in (seenBy own shown) s (e .left)) (path-in (seenBy own shown) s (e .right)))
-    by-kind star listed is = other (ap (chosen d (raise base e)) is) (mean-listed _ e listed ∙ ap (λ (p : Path). a-path (syntax.star p)) (path-in (seenBy own shown) s (e .left)))
-    by-kind labelled listed is = other (ap (chosen d (raise base e)) is) (mean-listed _ e listed)
-    by-kind leads listed is = other (ap (chosen d (raise base e)) is) (mean-listed _ e listed ∙ ap (λ (p : Path). a-filter (syntax.leads p)) (path-in (seenBy own shown) s (e .left)))
-    by-kind always listed is = other (ap (chosen d (raise base e)) is) (mean-listed _ e listed)
-    by-kind never listed is = other (ap (chosen d (raise base e)) is) (mean-listed _ e listed)
-    by-kind not listed is = other (ap (chosen d (raise base e)) is) (mean-listed _ e listed ∙ ap (λ (f : Filter). a-filter (syntax.not f)) (filter-in (seenBy own shown) s (e .left)))
-    by-kind and listed is = other (ap (chosen d (raise base e)) is) (mean-listed _ e listed ∙ ap₂ (λ (f g : Filter). a-filter (syntax.and f g)) (filter-in (seenBy own shown) s (e .left)) (filter-in (seenBy own shown) s (e .right)))
-    by-kind or listed is = other (ap (chosen d (raise base e)) is) (mean-listed _ e listed ∙ ap₂ (λ (f g : Filter). a-filter (syntax.or f g)) (filter-in (seenBy own shown) s (e .left)) (filter-in (seenBy own shown) s (e .right)))
+    by-kind self listed is = other self tt listed refl (ap (chosen d (raise base e)) is)
+    by-kind child listed is = along (ap (chosen d (raise base e)) is) (axis-rows own shown .down)
+    by-kind parent listed is = along (ap (chosen d (raise base e)) is) (axis-rows own shown .up)
+    by-kind next listed is = along (ap (chosen d (raise base e)) is) (axis-rows own shown .forwards)
+    by-kind previous listed is = along (ap (chosen d (raise base e)) is) (axis-rows own shown .backwards)
+    by-kind stay listed is = other stay tt listed refl (ap (chosen d (raise base e)) is)
+    by-kind then listed is = other then tt listed refl (ap (chosen d (raise base e)) is)
+    by-kind either listed is = other either tt listed refl (ap (chosen d (raise base e)) is)
+    by-kind star listed is = other star tt listed refl (ap (chosen d (raise base e)) is)
+    by-kind labelled listed is = other labelled tt listed refl (ap (chosen d (raise base e)) is)
+    by-kind leads listed is = other leads tt listed refl (ap (chosen d (raise base e)) is)
+    by-kind always listed is = other always tt listed refl (ap (chosen d (raise base e)) is)
+    by-kind never listed is = other never tt listed refl (ap (chosen d (raise base e)) is)
+    by-kind not listed is = other not tt listed refl (ap (chosen d (raise base e)) is)
+    by-kind and listed is = other and tt listed refl (ap (chosen d (raise base e)) is)
+    by-kind or listed is = other or tt listed refl (ap (chosen d (raise base e)) is)
 
     -- of whatever kind it is
     pub view-behind : Behind table (viewEntry d base e) (carry (seenBy own shown) (mean s e)) (c + 18 + height hs e)
@@ -93,7 +146,8 @@ module _ (own shown : Filter) {c : ℕ} (d base : ℕ) {table : Entries} (rows :
         rw (mean-listed s e (ordered .listed)) (by-kind kind listed (sym number ∙ ap (λ (o : Row). o .number) is))
 
 -- What is read of a table with one entry more.
-read-more : {A : Type 0} (read : List A → Entry → A) (table : Entries) (e : Entry) → readOn read [] (table ++ e ∷ []) ≡ readOn read [] table ++ read (readOn read [] table) e ∷ []
+read-more : {A : Type 0} (read : List A → Entry → A) (table : Entries) (e : Entry)
+    → readOn read [] (table ++ e ∷ []) ≡ readOn read [] table ++ read (readOn read [] table) e ∷ []
 unfolding readOn
 read-more read table e = read-append read [] table (e ∷ [])
 
@@ -105,7 +159,9 @@ module _ (vis : Filter) (done : Entries) (e : Entry) (rest : Entries) where
 
   sort-before : {x : ℕ} {sort : Sort} → x < length done → HasSort (done ++ e ∷ rest) x sort → HasSort done x sort
   unfolding rowAt entryAt
-  sort-before {x} l has = record { row = has .row; listed = ap (λ (o : Entry). rowOf (o .kind)) (sym (List·getD-append done (e ∷ rest) _ x l)) ∙ has .listed; sort = has .sort }
+  sort-before {x} l has =
+      let same : entryAt done x ≡ entryAt (done ++ e ∷ rest) x = sym (List·getD-append done (e ∷ rest) _ x l) in
+      record { row = has .row; listed = ap (λ (o : Entry). rowOf (o .kind)) same ∙ has .listed; sort = has .sort }
 
   many : length (map (carry vis) (meanings done)) ≡ length done
   unfolding meanings
@@ -115,7 +171,8 @@ module _ (vis : Filter) (done : Entries) (e : Entry) (rest : Entries) where
   unfolding OperandField Named
   named unused x h = h
   named (of sort) x (l, has) =
-      (omega (arith, many), ap sortFor (carry-at vis (meanings done) x) ∙ carry-sort vis (getD (meanings done) x nothing) ∙ meant-sorted l (sort-before l has))
+      let sorted = meant-sorted l (sort-before l has) in
+      (omega (arith, many), ap sortFor (carry-at vis (meanings done) x) ∙ carry-sort vis (getD (meanings done) x nothing) ∙ sorted)
 
   query-ordered : EntryRight (done ++ e ∷ rest) (length done) → Ordered (map (carry vis) (meanings done)) e
   unfolding rowAt
@@ -152,13 +209,15 @@ module _ (own shown : Filter) {c : ℕ} (d : ℕ) {front : Entries} (rows : Stoo
   length-so-far done = omega (arith, length-append front (map view done), length-map done view)
 
   so-far-more : (done : Entries) (e : Entry) → soFar done ++ view e ∷ [] ≡ soFar (done ++ e ∷ [])
-  so-far-more done e = append-assoc front (map view done) (view e ∷ []) ∙ ap (λ (l : Entries). front ++ l) (sym (map-append view done (e ∷ [])))
+  so-far-more done e =
+      append-assoc front (map view done) (view e ∷ []) ∙ ap (λ (l : Entries). front ++ l) (sym (map-append view done (e ∷ [])))
 
   module _ (done : Entries) (e : Entry) (rest : Entries) (right : EntryRight (done ++ e ∷ rest) (length done)) (drawn : Drawn done) where
     -- the next entry
     next-behind : Behind (soFar done) (view e) (carry vis (mean (meanings done) e)) (c + 18 + height (heights done) e)
     next-behind =
-        view-behind own shown d (length front) (stood-kept (map view done) rows) (meanings done) (heights done) e drawn (query-ordered vis done e rest right)
+        view-behind own shown d (length front) (stood-kept (map view done) rows) (meanings done) (heights done) e drawn
+        (query-ordered vis done e rest right)
 
     drawn-more : Drawn (done ++ e ∷ [])
     unfolding meanings
@@ -179,7 +238,8 @@ module _ (own shown : Filter) {c : ℕ} (d : ℕ) {front : Entries} (rows : Stoo
     sound-more l sound = rw (so-far-more done e) at (sound-end next-behind l sound)
 
   -- the rest of the query
-  query-drawn : (done rest : Entries) → ((i : ℕ) → i < length (done ++ rest) → EntryRight (done ++ rest) i) → Drawn done → Drawn (done ++ rest)
+  query-drawn : (done rest : Entries) → ((i : ℕ) → i < length (done ++ rest) → EntryRight (done ++ rest) i) → Drawn done
+      → Drawn (done ++ rest)
   query-drawn done [] right drawn = rw (append-nil done) drawn
   query-drawn done (e ∷ rest) right drawn =
       let here : EntryRight (done ++ e ∷ rest) (length done) = right (length done) (omega (arith, length-append done (e ∷ rest))) in
@@ -188,7 +248,8 @@ module _ (own shown : Filter) {c : ℕ} (d : ℕ) {front : Entries} (rows : Stoo
 
   -- and the table stays sound, where no entry of the query is too high
   query-sound : {most : ℕ} (done rest : Entries) → ((i : ℕ) → i < length (done ++ rest) → EntryRight (done ++ rest) i)
-      → ((i : ℕ) → i < length (done ++ rest) → c + 18 + heightAt (done ++ rest) i ≤ most) → Drawn done → Sound (soFar done) most → Sound (soFar (done ++ rest)) most
+      → ((i : ℕ) → i < length (done ++ rest) → c + 18 + heightAt (done ++ rest) i ≤ most) → Drawn done → Sound (soFar done) most
+      → Sound (soFar (done ++ rest)) most
   unfolding heightAt
   query-sound done [] right low drawn sound = rw (append-nil done) sound
   query-sound {most} done (e ∷ rest) right low drawn sound =
@@ -214,5 +275,6 @@ module _ (own shown : Filter) {c : ℕ} (d : ℕ) {front : Entries} (rows : Stoo
     pub drawn-whole : Drawn query
     drawn-whole = query-drawn [] query right none-drawn
 
-    pub sound-whole : {most : ℕ} → ((i : ℕ) → i < length query → c + 18 + heightAt query i ≤ most) → Sound front most → Sound (front ++ map view query) most
+    pub sound-whole : {most : ℕ} → ((i : ℕ) → i < length query → c + 18 + heightAt query i ≤ most) → Sound front most
+        → Sound (front ++ map view query) most
     sound-whole low sound = query-sound [] query right low none-drawn (rw (append-nil front) sound)

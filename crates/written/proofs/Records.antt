@@ -1,5 +1,5 @@
--- The entries for the annotation's records: behind those of each record, the last two say whether one of the records so far is the node's, and whether one
--- of them shows it. Assumes nothing.
+-- The entries for the annotation's records: behind those of each record, the last two say whether one of the records so far is the node's,
+-- and whether one of them shows it. Assumes nothing.
 use Prim.Native.Nat.{ℕ, zero, suc, _+_, _-_, _*_, _≤_, _<_}
 use native.Mathlib.Omega.{arith}
 use mathlib.Core.Path.{_≡_, refl, sym, ap, _∙_, subst}
@@ -17,8 +17,8 @@ use Rattle.written.specs.Written.{entry, labelEntry, moved, renumber, op
 use Rattle.written.proofs.Stands.{nothing, Stands, stands-kept, stands-as, Sound, sound-lower, Named, Ordered, Stood, Next, filter-stands}
 use Rattle.written.proofs.Patterns.{InTurn, pattern-stood, pattern-sound, turnTest, rowTest, namedTest, labelTest, sameSort, turn-tested, lowTest, low-tested}
 
--- The nine entries with their operands numbered in a list: 0 is the parent step, 1 the record's filter, 2 and 3 what the entries before say.
--- 4 and 5 are the record's labels.
+-- The nine entries with their operands numbered in a list: 0 is the parent step, 1 the record's filter, 2 and 3 what the entries before
+-- say. 4 and 5 are the record's labels.
 abbrev joining : Entries
 joining =
     entry 6 5 0
@@ -43,7 +43,8 @@ places parent named b (suc (suc (suc (suc zero)))) = b
 places parent named b (suc (suc (suc (suc (suc k))))) = b + suc k
 
 -- these are the entries that are written
-pattern-written : (parent b : ℕ) (r : AnnotationRecord) → recordEntries parent b r ≡ map (renumber (places parent (r .filter) b)) (pattern r)
+pattern-written : (parent b : ℕ) (r : AnnotationRecord)
+    → recordEntries parent b r ≡ map (renumber (places parent (r .filter) b)) (pattern r)
 unfolding renumber moved places kinds find
 pattern-written parent b r = refl
 
@@ -94,7 +95,8 @@ low : (r : AnnotationRecord) (k : ℕ) → getD (heights r) k 0 ≤ 7
 unfolding heights lowTest readOn height operandHeight kinds find
 low r = low-tested 7 (heights r) tt
 
--- Behind the filter table, whose entries are at most h high, and the opening: n records are written, and the last two entries are about them.
+-- Behind the filter table, whose entries are at most h high, and the opening: n records are written, and the last two entries are about
+-- them.
 pub record Stage (filters : Entries) (h n : ℕ) (rules : List Rule) (table : Entries) : Type 0 where
   pub size : length table ≡ length filters + 3 + 9 * n
   pub front : {i k : ℕ} {x : Meant} → Stands filters i x k → Stands table i x k
@@ -116,7 +118,8 @@ places-next parent named b (suc (suc (suc (suc (suc k))))) j l = omega arith
 -- the parent step, the record's filter, and what the two last entries say
 four-stood : {filters : Entries} {h n : ℕ} {rules : List Rule} {table : Entries} (r : AnnotationRecord) → Stage filters h n rules table
     → Stands table (r .filter) (a-filter (filterAt filters (r .filter))) h
-    → Stood (n + h) (places (length filters) (r .filter) (length filters + 3 + 9 * n)) (things (ruleOf filters r) (someOf pairOf rules) (someOf showing rules)) (1 ∷ 0 ∷ 6 ∷ 6 ∷ []) table
+    → let to : ℕ → ℕ = places (length filters) (r .filter) (length filters + 3 + 9 * n) in
+    Stood (n + h) to (things (ruleOf filters r) (someOf pairOf rules) (someOf showing rules)) (1 ∷ 0 ∷ 6 ∷ 6 ∷ []) table
 unfolding places
 four-stood {filters} {h} {n} {rules} {table} r stage named = record { size = refl; each = at }
   where
@@ -150,11 +153,14 @@ module _ (filters : Entries) (h : ℕ) (sound : Sound filters h) where
         parent = stands-as (omega arith) (omega arith) (all .each 0 (omega arith));
         owns = stands-as (omega arith) (omega arith) (all .each 1 (omega arith));
         shows = stands-as (omega arith) (omega arith) (all .each 2 (omega arith));
-        sound = λ most l. pattern-sound opening turn next none (λ k. omega (arith, low-tested 1 (1 ∷ 1 ∷ 1 ∷ []) tt k)) (sound-lower (omega arith) sound);
+        sound =
+            λ most l. pattern-sound opening turn next none (λ k. omega (arith, low-tested 1 (1 ∷ 1 ∷ 1 ∷ []) tt k))
+            (sound-lower (omega arith) sound);
       }
 
   -- then one more
-  pub stage-more : {n : ℕ} {rules : List Rule} {table : Entries} (r : AnnotationRecord) → RecordForm filters r → Stage filters h n rules table
+  pub stage-more : {n : ℕ} {rules : List Rule} {table : Entries} (r : AnnotationRecord) → RecordForm filters r
+      → Stage filters h n rules table
       → Stage filters h (suc n) (ruleOf filters r ∷ rules) (table ++ recordEntries (length filters) (length filters + 3 + 9 * n) r)
   unfolding someOf heights meant
   stage-more {n} {rules} {table} r form stage =
@@ -171,7 +177,8 @@ module _ (filters : Entries) (h : ℕ) (sound : Sound filters h) where
       let turn : InTurn s (pattern r) = in-turn filters r own shown (form .child) (form .parent) in
       let entries : Entries = recordEntries first b r in
       let same : map (renumber to) (pattern r) ≡ entries = sym (pattern-written first b r) in
-      let all : Stood (n + h) to (meant filters r own shown) (heights r) (table ++ entries) = rw same at (pattern-stood (pattern r) turn next before) in
+      let all : Stood (n + h) to (meant filters r own shown) (heights r) (table ++ entries) =
+      rw same at (pattern-stood (pattern r) turn next before) in
       let count = many filters r own shown in
       let grown = length-append table entries in
       let size = stage .size in
@@ -179,7 +186,13 @@ module _ (filters : Entries) (h : ℕ) (sound : Sound filters h) where
         size = omega arith;
         front = λ x. stands-kept entries (stage .front x);
         parent = stands-kept entries (stage .parent);
-        owns = stands-as (places-next first (r .filter) b 11 7 refl ∙ omega arith) (omega (arith, low r 11)) (rw (meant-own filters r own shown) at (all .each 11 (omega arith)));
-        shows = stands-as (places-next first (r .filter) b 12 8 refl ∙ omega arith) (omega (arith, low r 12)) (rw (meant-shown filters r own shown) at (all .each 12 (omega arith)));
-        sound = λ most l. rw same at (pattern-sound {h = most} (pattern r) turn next before (λ k. omega (arith, low r k)) (stage .sound most (omega arith)));
+        owns =
+            stands-as (places-next first (r .filter) b 11 7 refl ∙ omega arith) (omega (arith, low r 11))
+            (rw (meant-own filters r own shown) at (all .each 11 (omega arith)));
+        shows =
+            stands-as (places-next first (r .filter) b 12 8 refl ∙ omega arith) (omega (arith, low r 12))
+            (rw (meant-shown filters r own shown) at (all .each 12 (omega arith)));
+        sound =
+            λ most l. rw same at
+            (pattern-sound {h = most} (pattern r) turn next before (λ k. omega (arith, low r k)) (stage .sound most (omega arith)));
       }

@@ -1,5 +1,5 @@
--- What an entry of a table stands for, with its sort and a bound on its height, in one record, which entries behind it keep; and an entry at the end of
--- a table, whose operands are entries that stand for what they should. Assumes nothing.
+-- What an entry of a table stands for, with its sort and a bound on its height, in one record, which entries behind it keep; and an entry
+-- at the end of a table, whose operands are entries that stand for what they should. Assumes nothing.
 use Prim.Native.Nat.{ℕ, suc, _+_, _≤_, _<_, max}
 use native.Mathlib.Nat.{max-le, le-max-left, le-max-right}
 use native.Mathlib.Decide.{decLt}
@@ -61,16 +61,19 @@ pub sound-lower : {table : Entries} {h h′ : ℕ} → h ≤ h′ → Sound tabl
 sound-lower l s = record { right = s .right; low = λ i w. omega (arith, s .low i w) }
 
 -- what is read of the last entry
-pub at-end : {A : Type 0} (read : List A → Entry → A) (table : Entries) (e : Entry) (d : A) → getD (readOn read [] (table ++ e ∷ [])) (length table) d ≡ read (readOn read [] table) e
+pub at-end : {A : Type 0} (read : List A → Entry → A) (table : Entries) (e : Entry) (d : A)
+    → getD (readOn read [] (table ++ e ∷ [])) (length table) d ≡ read (readOn read [] table) e
 unfolding readOn
 at-end {A} read table e d =
     ap (λ (l : List A). getD l (length table) d) (read-append read [] table (e ∷ []))
     ∙ getD-at (readOn read [] table) (read (readOn read [] table) e) [] d (length table) (omega (arith, read-length read [] table))
 
 -- an entry in order behind a sound table
-sound-more : {table : Entries} {h : ℕ} (e : Entry) → Sound table h → AllRight table (e ∷ []) → heightAt (table ++ e ∷ []) (length table) ≤ h → Sound (table ++ e ∷ []) h
+sound-more : {table : Entries} {h : ℕ} (e : Entry) → Sound table h → AllRight table (e ∷ [])
+    → heightAt (table ++ e ∷ []) (length table) ≤ h → Sound (table ++ e ∷ []) h
 unfolding heightAt
-sound-more {table} {h} e s right low = record { right = λ i l. rights i l (decLt i (length table)); low = λ i l. lows i l (decLt i (length table)) }
+sound-more {table} {h} e s right low =
+    record { right = λ i l. rights i l (decLt i (length table)); low = λ i l. lows i l (decLt i (length table)) }
   where
     size : length (table ++ e ∷ []) ≡ suc (length table)
     size = omega (arith, length-append table (e ∷ []))
@@ -115,7 +118,8 @@ pub record Stood (c : ℕ) (to : ℕ → ℕ) (s : List Meant) (hs : List ℕ) (
   pub each : (k : ℕ) → k < length s → Stands table (to k) (getD s k nothing) (c + getD hs k 0)
 
 -- they do so in every longer table
-pub stood-kept : {c : ℕ} {to : ℕ → ℕ} {s : List Meant} {hs : List ℕ} {table : Entries} (more : Entries) → Stood c to s hs table → Stood c to s hs (table ++ more)
+pub stood-kept : {c : ℕ} {to : ℕ → ℕ} {s : List Meant} {hs : List ℕ} {table : Entries} (more : Entries) → Stood c to s hs table
+    → Stood c to s hs (table ++ more)
 stood-kept more stood = record { size = stood .size; each = λ k l. stands-kept more (stood .each k l) }
 
 -- The things that come next will be the table's next entries.
@@ -125,15 +129,23 @@ pub record Next (to : ℕ → ℕ) (s : List Meant) (table : Entries) : Type 0 w
 -- one more thing, which the table's next entry stands for
 module _ {to : ℕ → ℕ} {s : List Meant} {table : Entries} (x : Meant) (e : Entry) (next : Next to s table) where
   pub next-end : Next to (s ++ x ∷ []) (table ++ e ∷ [])
-  next-end = record { place = λ k j l. next .place k (suc j) (omega (arith, length-append s (x ∷ []))) ∙ omega (arith, length-append table (e ∷ [])) }
+  next-end =
+      let more = length-append s (x ∷ []) in
+      let longer = length-append table (e ∷ []) in
+      record { place = λ k j l. next .place k (suc j) (omega arith) ∙ omega arith }
 
-  pub stood-end : {c : ℕ} {hs : List ℕ} (h : ℕ) → Stood c to s hs table → Behind table e x (c + h) → Stood c to (s ++ x ∷ []) (hs ++ h ∷ []) (table ++ e ∷ [])
+  pub stood-end : {c : ℕ} {hs : List ℕ} (h : ℕ) → Stood c to s hs table → Behind table e x (c + h)
+      → Stood c to (s ++ x ∷ []) (hs ++ h ∷ []) (table ++ e ∷ [])
   stood-end {c} {hs} h stood new =
-      record { size = omega (arith, length-append s (x ∷ []), length-append hs (h ∷ []), stood .size); each = λ k l. at k l (decLt k (length s)) }
+      let more = length-append s (x ∷ []) in
+      let higher = length-append hs (h ∷ []) in
+      record { size = omega (arith, stood .size); each = λ k l. at k l (decLt k (length s)) }
     where
-      at : (k : ℕ) → k < length (s ++ x ∷ []) → Dec (k < length s) → Stands (table ++ e ∷ []) (to k) (getD (s ++ x ∷ []) k nothing) (c + getD (hs ++ h ∷ []) k 0)
+      at : (k : ℕ) → k < length (s ++ x ∷ []) → Dec (k < length s)
+          → Stands (table ++ e ∷ []) (to k) (getD (s ++ x ∷ []) k nothing) (c + getD (hs ++ h ∷ []) k 0)
       at k l (yes old) =
-          rw (List·getD-append s (x ∷ []) nothing k old, List·getD-append hs (h ∷ []) 0 k (omega (arith, stood .size))) (stands-kept (e ∷ []) (stood .each k old))
+          rw (List·getD-append s (x ∷ []) nothing k old, List·getD-append hs (h ∷ []) 0 k (omega (arith, stood .size)))
+          (stands-kept (e ∷ []) (stood .each k old))
       at k l (no last) =
           let end : k ≡ length s = omega (arith, length-append s (x ∷ [])) in
           let place : to k ≡ length table = next .place k 0 (omega arith) ∙ omega arith in
@@ -147,8 +159,10 @@ mean-listed s e listed = ap (λ (r : Option Row). elim r [ none ↦ nothing | so
 pub height-listed : (hs : List ℕ) (e : Entry) {row : Row} → rowOf (e .kind) ≡ some row
     → height hs e ≡ suc (max (operandHeight hs (row .left) (e .left)) (operandHeight hs (row .right) (e .right)))
 unfolding height
-height-listed hs e listed =
-    ap (λ (r : Option Row). elim r [ none ↦ 1 | some row ↦ suc (max (operandHeight hs (row .left) (e .left)) (operandHeight hs (row .right) (e .right))) ]) listed
+height-listed hs e listed = ap (λ (r : Option Row). elim r [ none ↦ 1 | some row ↦ over row ]) listed
+  where
+    over : Row → ℕ
+    over row = suc (max (operandHeight hs (row .left) (e .left)) (operandHeight hs (row .right) (e .right)))
 
 -- an operand that is used means in one list what another number means in another
 abbrev Carries : List Meant → List Meant → Operand → ℕ → ℕ → Type 0
@@ -157,7 +171,8 @@ Carries s m (of sort) x y = getD m y nothing ≡ getD s x nothing
 
 -- so the entry means the same
 module _ (s m : List Meant) (e f : Entry) (label : f .label ≡ e .label) where
-  build-same : (kind : Kind) → Carries s m (rowFor kind .left) (e .left) (f .left) → Carries s m (rowFor kind .right) (e .right) (f .right) → build m kind f ≡ build s kind e
+  build-same : (kind : Kind) → Carries s m (rowFor kind .left) (e .left) (f .left)
+      → Carries s m (rowFor kind .right) (e .right) (f .right) → build m kind f ≡ build s kind e
   unfolding build rowFor kinds pathIn filterIn
   build-same self l r = refl
   build-same child l r = refl
@@ -197,7 +212,8 @@ build-sort and s e = refl
 build-sort or s e = refl
 
 -- An entry at the end of a table: its operands are things that stand in the table, under their numbers there.
-module _ {c : ℕ} {to : ℕ → ℕ} {s : List Meant} {hs : List ℕ} {table : Entries} (stood : Stood c to s hs table) {e : Entry} (ordered : Ordered s e) where
+module _ {c : ℕ} {to : ℕ → ℕ} {s : List Meant} {hs : List ℕ} {table : Entries} (stood : Stood c to s hs table) {e : Entry}
+    (ordered : Ordered s e) where
   row : Row
   row = ordered .row
 
@@ -228,7 +244,8 @@ module _ {c : ℕ} {to : ℕ → ℕ} {s : List Meant} {hs : List ℕ} {table : 
   operand-carries (of filter) x h = stood .each x (h .0) .means
 
   -- they are no higher than they should be
-  operand-low : (o : Operand) (x : ℕ) → Named s o x → operandHeight (readOn height [] table) o (moved to (operandNumber o) x) ≤ c + operandHeight hs o x
+  operand-low : (o : Operand) (x : ℕ) → Named s o x
+      → operandHeight (readOn height [] table) o (moved to (operandNumber o) x) ≤ c + operandHeight hs o x
   unfolding Named moved operandHeight heightAt
   operand-low unused x h = omega arith
   operand-low (of path) x h = stood .each x (h .0) .low
@@ -274,7 +291,8 @@ module _ {c : ℕ} {to : ℕ → ℕ} {s : List Meant} {hs : List ℕ} {table : 
   unfolding row moves renumber
   entry-behind =
       let same : row .sort ≡ sortFor (mean s e) =
-      ap (λ (o : Row). o .sort) (row-found (ordered .listed) .0) ∙ sym (ap sortFor (mean-listed s e (ordered .listed)) ∙ build-sort (row .kind) s e) in
+      ap (λ (o : Row). o .sort) (row-found (ordered .listed) .0)
+      ∙ sym (ap sortFor (mean-listed s e (ordered .listed)) ∙ build-sort (row .kind) s e) in
       record {
         right = right-end;
         stands =

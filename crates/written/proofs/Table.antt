@@ -1,5 +1,5 @@
--- The table written for an annotation and a query: it stands for the rewriting of the query by the filter for visible, every entry of it is in order, and how
--- many entries it has and how high they are is bounded by sums. Assumes nothing.
+-- The table written for an annotation and a query: it stands for the rewriting of the query by the filter for visible, every entry of it is
+-- in order, and how many entries it has and how high they are is bounded by sums. Assumes nothing.
 use Prim.Native.Nat.{ℕ, suc, _+_, _-_, _*_, _≤_, _<_}
 use native.Mathlib.Nat.{le-refl}
 use native.Mathlib.Omega.{arith}
@@ -8,7 +8,7 @@ use mathlib.Core.List.{List, [], _∷_, _++_, map, append-assoc, append-nil}
 use lib.ListN.{length, getD, length-append, length-map, List·getD-map}
 use Rattle.query.specs.Syntax.{Path, Filter}
 use Rattle.query.specs.Kind.{path}
-use Rattle.query.specs.Table.{Entries, HasSort, EntryRight, height, heightAt, readOn, Meant, thePath, pathIn, mean, meanings, pathAt, queryOf}
+use Rattle.query.specs.Table.{Entry, Entries, HasSort, EntryRight, height, heightAt, readOn, Meant, thePath, pathIn, mean, meanings, pathAt, queryOf}
 use Rattle.query.proofs.Tables.{read-length}
 use Rattle.view.specs.Annotation.{AnnotationRecord, recordAt, RecordForm, Rule}
 use Rattle.rewriting.proofs.Rewriting.{rewritten}
@@ -29,13 +29,15 @@ records-many first (r ∷ more) =
 pub prelude-size : (first : ℕ) (records : List AnnotationRecord) → length (prelude first records) ≡ preludeSize (length records)
 unfolding prelude axisRows
 prelude-size first records =
-    omega (arith, length-append (recordsEntries first records) (map (raise (first + 1 + 9 * length records)) axisRows), records-many first records)
+    let rows : Entries = map (raise (first + 1 + 9 * length records)) axisRows in
+    omega (arith, length-append (recordsEntries first records) rows, records-many first records)
 
 -- The records' entries, behind the filter table and the opening.
 module _ {filters : Entries} {h : ℕ} (sound : Sound filters h) where
   -- the table with the entries of these records
   Recorded : List AnnotationRecord → Type 0
-  Recorded records = Stage filters h (length records) (map (ruleOf filters) records) ((filters ++ opening) ++ recordsEntries (length filters) records)
+  Recorded records =
+      Stage filters h (length records) (map (ruleOf filters) records) ((filters ++ opening) ++ recordsEntries (length filters) records)
 
   none-recorded : Recorded []
   unfolding Recorded recordsEntries
@@ -48,13 +50,15 @@ module _ {filters : Entries} {h : ℕ} (sound : Sound filters h) where
       rw (append-assoc (filters ++ opening) (recordsEntries first more) (recordEntries first (first + 3 + 9 * length more) r))
       at (stage-more filters h sound r form stage)
 
-  all-recorded : (records : List AnnotationRecord) → ((i : ℕ) → i < length records → RecordForm filters (recordAt records i)) → Recorded records
+  all-recorded : (records : List AnnotationRecord) → ((i : ℕ) → i < length records → RecordForm filters (recordAt records i))
+      → Recorded records
   unfolding recordAt
   all-recorded [] forms = none-recorded
   all-recorded (r ∷ more) forms = one-recorded r more (forms 0 (omega arith)) (all-recorded more (λ i l. forms (suc i) (omega arith)))
 
 -- What stands before the query, and what is known of it.
-module _ {filters : Entries} {h : ℕ} (sound : Sound filters h) (records : List AnnotationRecord) (forms : (i : ℕ) → i < length records → RecordForm filters (recordAt records i)) where
+module _ {filters : Entries} {h : ℕ} (sound : Sound filters h) (records : List AnnotationRecord)
+    (forms : (i : ℕ) → i < length records → RecordForm filters (recordAt records i)) where
   -- the rules of the records
   abbrev ruled : List Rule
   ruled = map (ruleOf filters) records
@@ -77,24 +81,26 @@ module _ {filters : Entries} {h : ℕ} (sound : Sound filters h) (records : List
   unfolding Recorded
   stage = all-recorded sound records forms
 
-  whole-front : ((filters ++ opening) ++ recordsEntries (length filters) records) ++ map (raise distance) axisRows ≡ filters ++ prelude (length filters) records
+  whole-front : ((filters ++ opening) ++ recordsEntries (length filters) records) ++ map (raise distance) axisRows
+      ≡ filters ++ prelude (length filters) records
   unfolding prelude
   whole-front = simp append-assoc
 
   front-rows : Stood most (λ x. x + distance) (rowsMeant own shown) rowsHeights (filters ++ prelude (length filters) records)
   front-rows =
       let size = stage .size in
-      rw whole-front
-      at (rows-stood {c = most} {d = distance} (omega arith) (stage .owns) (stands-as (omega arith) (omega arith) (stage .shows)))
+      let last = stands-as {j = 1 + distance} (omega arith) (le-refl _) (stage .shows) in
+      rw whole-front at (rows-stood {c = most} {d = distance} (omega arith) (stage .owns) last)
 
   front-sound : {top : ℕ} → most + 19 ≤ top → Sound (filters ++ prelude (length filters) records) top
   front-sound {top} l =
       let size = stage .size in
-      rw whole-front
-      at (rows-sound {c = most} {d = distance} (omega arith) (stage .owns) (stands-as (omega arith) (omega arith) (stage .shows)) l (stage .sound top (omega arith)))
+      let last = stands-as {j = 1 + distance} (omega arith) (le-refl _) (stage .shows) in
+      rw whole-front at (rows-sound {c = most} {d = distance} (omega arith) (stage .owns) last l (stage .sound top (omega arith)))
 
   front-size : length (filters ++ prelude (length filters) records) ≡ length filters + preludeSize (length records)
-  front-size = length-append filters (prelude (length filters) records) ∙ ap (λ (n : ℕ). length filters + n) (prelude-size (length filters) records)
+  front-size =
+      length-append filters (prelude (length filters) records) ∙ ap (λ (n : ℕ). length filters + n) (prelude-size (length filters) records)
 
   module _ {query : Entries} (right : (i : ℕ) → i < length query → EntryRight query i) where
     abbrev front : Entries
@@ -106,18 +112,22 @@ module _ {filters : Entries} {h : ℕ} (sound : Sound filters h) (records : List
     -- the query's entries stand behind the front
     whole-table : front ++ map (viewEntry distance (length front)) query ≡ table
     unfolding written
-    whole-table = rw front-size (append-assoc filters (prelude (length filters) records) (map (viewEntry distance (length filters + preludeSize (length records))) query))
+    whole-table =
+        let own-entries : Entries = map (viewEntry distance (length filters + preludeSize (length records))) query in
+        rw front-size (append-assoc filters (prelude (length filters) records) own-entries)
 
     stood : Stood (most + 18) (λ x. x + length front) (map (carry (seenBy own shown)) (meanings query)) (readOn height [] query) table
     stood = rw whole-table at (drawn-whole own shown distance front-rows right)
 
-    -- "entries of the filter table, entries of the query, 9 for each record and a constant"
+    -- How many entries: those of the filter table, those of the query, nine for each record and a constant.
     pub table-size : length table ≡ length filters + length query + 9 * length records + 59
     table-size =
-        omega (arith, sym (ap length whole-table), length-append front (map (viewEntry distance (length front)) query), length-map query (viewEntry distance (length front)), front-size)
+        let view : Entry → Entry = viewEntry distance (length front) in
+        omega (arith, sym (ap length whole-table), length-append front (map view query), length-map query view, front-size)
 
-    -- "height of the query and a constant", for given heights of the filters and a given number of records
-    pub table-sound : {high : ℕ} → 1 ≤ high → ((i : ℕ) → i < length query → heightAt query i ≤ high) → Sound table (high + h + length records + 24)
+    -- How high they are: at most as the query, the filters and the number of records together, and a constant.
+    pub table-sound : {high : ℕ} → 1 ≤ high → ((i : ℕ) → i < length query → heightAt query i ≤ high)
+        → Sound table (high + h + length records + 24)
     table-sound {high} some low =
         let top : ℕ = high + h + length records + 24 in
         let lows : (i : ℕ) → i < length query → most + 18 + heightAt query i ≤ top = λ i l. omega (arith, low i l) in
@@ -130,7 +140,8 @@ module _ {filters : Entries} {h : ℕ} (sound : Sound filters h) (records : List
     table-stands some last =
         let k : ℕ = length query - 1 in
         let vis : Filter = seenBy own shown in
-        let count : length (map (carry vis) (meanings query)) ≡ length query = length-map (meanings query) (carry vis) ∙ omega (arith, read-length mean [] query) in
+        let count : length (map (carry vis) (meanings query)) ≡ length query =
+        length-map (meanings query) (carry vis) ∙ omega (arith, read-length mean [] query) in
         let place : k + length front ≡ length table - 1 = omega (arith, table-size, front-size) in
         let end = stands-as place (le-refl _) (stood .each k (omega arith)) in
         let sort : sortFor (getD (map (carry vis) (meanings query)) k nothing) ≡ path =

@@ -1,5 +1,5 @@
--- The entries of a rewritten query, behind those of the filter table: for the annotation's records, for who is visible and the four axes of the
--- view, and one for each entry of the query. Nothing here has to be believed: the laws say what the table stands for, and call 5's
+-- The entries of a rewritten query, behind those of the filter table: for the annotation's records, for who is visible and the four axes of
+-- the view, and one for each entry of the query. Nothing here has to be believed: the laws say what the table stands for, and call 5's
 -- promise is stated without it.
 use Prim.Native.Nat.{ℕ, zero, suc, _+_, _-_, _*_}
 use mathlib.Core.List.{List, [], _∷_, _++_, map}
@@ -51,18 +51,22 @@ pairEntries up b parent child =
     ∷ entry 21 b (b + 4)
     ∷ []
 
--- Nine entries for a record. The two before them say of the records that were written whether one is the node's, and whether one shows it; the last two
--- of the nine say so with this record.
+-- Nine entries for a record. The two before them say of the records that were written whether one is the node's, and whether one shows it;
+-- the last two of the nine say so with this record.
+abbrev pub nineEntries : (up b parent child filter : ℕ) → Entries
+nineEntries up b parent child filter =
+    pairEntries up b parent child ++ (entry 21 (b + 5) filter ∷ entry 22 (b + 5) (b - 2) ∷ entry 22 (b + 6) (b - 1) ∷ [])
+
 abbrev pub recordEntries : ℕ → ℕ → AnnotationRecord → Entries
-recordEntries up b r =
-    pairEntries up b (r .parent) (r .child) ++ (entry 21 (b + 5) (r .filter) ∷ entry 22 (b + 5) (b - 2) ∷ entry 22 (b + 6) (b - 1) ∷ [])
+recordEntries up b r = nineEntries up b (r .parent) (r .child) (r .filter)
 
 -- The entries of all records, the last record first, behind the opening; `first` is the number of the parent step.
 unfoldable pub recordsEntries : ℕ → List AnnotationRecord → Entries
 recordsEntries first [] = []
 recordsEntries first (r ∷ more) = recordsEntries first more ++ recordEntries first (first + 3 + 9 * length more) r
 
--- Who is visible, and the four axes. Operands count from the two entries before: 0 is "some record is the node's", 1 is "some record shows it".
+-- Who is visible, and the four axes. Operands count from the two entries before: 0 is "some record is the node's", 1 is "some record shows
+-- it".
 unfoldable pub axisRows : Entries
 axisRows =
     entry 3 0 0
@@ -144,10 +148,11 @@ prelude first records = opening ++ (recordsEntries first records ++ map (raise (
 abbrev pub preludeSize : ℕ → ℕ
 preludeSize records = 59 + 9 * records
 
--- What is written for an entry of the query, by the number of its kind: a step along an axis becomes a copy of that axis's last row, any other stays
--- what it is.
+-- What is written for an entry of the query, by the number of its kind: a step along an axis becomes a copy of that axis's last row, any
+-- other stays what it is.
 unfoldable pub chosen : (axes : ℕ) → Entry → ℕ → Entry
-chosen axes own kind = getD (own ∷ own ∷ raise axes (axisRow 18) ∷ raise axes (axisRow 22) ∷ raise axes (axisRow 44) ∷ raise axes (axisRow 55) ∷ []) kind own
+chosen axes own kind =
+    getD (own ∷ own ∷ raise axes (axisRow 18) ∷ raise axes (axisRow 22) ∷ raise axes (axisRow 44) ∷ raise axes (axisRow 55) ∷ []) kind own
 
 -- the same, its operands raised
 unfoldable pub viewEntry : (axes distance : ℕ) → Entry → Entry

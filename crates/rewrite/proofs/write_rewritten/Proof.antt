@@ -1,5 +1,6 @@
 -- `rewrite::write_rewritten` meets its contract. Assumes nothing.
 use native.Mathlib.Omega.{arith}
+use Rattle.query.proofs.Tables.{entries-length}
 use Rattle.rewrite.proofs.Made.{copy-fits, writer-given, made, short-count}
 use borrow.Author.Needs.{needs}
 use Rattle.rewrite.proofs.write_rewritten.Statement.{statement}
@@ -12,10 +13,14 @@ count-requires : tie.Need-count-requires
 count-requires c κs = search needs
 
 sub-write-behind : tie.Need-sub-write-behind
-sub-write-behind c = search needs
+sub-write-behind c =
+    let a = c .before .before .before .before .before .before .before .before .before .args in
+    omega (arith, entries-length (a .filters .now), c .before .before .before .copy .ensures .0)
 
 part-write-behind-start : tie.Need-part-write-behind-start
-part-write-behind-start c = search needs
+part-write-behind-start c =
+    let a = c .before .before .before .before .before .before .before .before .before .args in
+    omega (arith, entries-length (a .filters .now), c .before .before .before .copy .ensures .0)
 
 part-write-behind-end : tie.Need-part-write-behind-end
 part-write-behind-end c = search needs
@@ -27,7 +32,8 @@ write-behind-requires c κs =
     let start = at-copy .before .before .before .before .before .before in
     let (annotated, asked) = start .pre .0 in
     let (size, copied) = at-copy .copy .ensures in
-    writer-given annotated asked (start .args .room .now) (at-copy .copy .last .1 .0) (at-copy .copy .result) (start .pre .1) size copied (at-count .count .ensures)
+    writer-given annotated asked (start .args .room .now) (at-copy .copy .last .1 .0) (at-copy .copy .result) (start .pre .1) size copied
+    (at-count .count .ensures)
 
 add-result : tie.Need-add-result
 add-result c =
@@ -50,7 +56,8 @@ returns c =
     let (annotated, asked) = start .pre .0 in
     let (size, copied) = at-copy .copy .ensures in
     let (many, laid-there) = at-write .write-behind .ensures in
-    made annotated asked (start .args .room .now) (at-copy .copy .last .1 .0) (at-copy .copy .result) (start .pre .1) size copied (at-count .count .ensures) many laid-there
+    made annotated asked (start .args .room .now) (at-copy .copy .last .1 .0) (at-copy .copy .result) (start .pre .1) size copied
+    (at-count .count .ensures) many laid-there
 
 pub write-rewritten-spec : {M : Type 1} → statement M
 write-rewritten-spec =

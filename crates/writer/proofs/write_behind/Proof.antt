@@ -1,7 +1,8 @@
 -- `writer::write_behind` meets its contract. Assumes nothing.
 use native.Mathlib.Omega.{arith}
-use Rattle.query.specs.Table.{entries}
-use Rattle.view.specs.Annotation.{records}
+use mathlib.Core.List.{List}
+use Rattle.query.specs.Table.{Entries, entries}
+use Rattle.view.specs.Annotation.{AnnotationRecord, records}
 use Rattle.writer.proofs.Recording.{written-size, behind-laid}
 use borrow.Author.Needs.{needs}
 use Rattle.writer.proofs.write_behind.Statement.{statement}
@@ -44,8 +45,10 @@ returns c =
     let at-prelude = at-query .before .before .before .before in
     let a = at-prelude .before .before .before .before .before .args in
     let (count, front) = at-prelude .write-prelude .ensures in
-    let size = written-size (a .first) (records (a .annotation .now)) (entries (a .query .now)) in
-    (omega (arith, c .count .ensures), behind-laid (a .out .now) (a .first) (records (a .annotation .now)) (entries (a .query .now)) count front (at-query .write-query .ensures))
+    let rs : List AnnotationRecord = records (a .annotation .now) in
+    let es : Entries = entries (a .query .now) in
+    let size = written-size (a .first) rs es in
+    (omega (arith, c .count .ensures), behind-laid (a .out .now) (a .first) rs es count front (at-query .write-query .ensures))
 
 pub write-behind-spec : {M : Type 1} → statement M
 write-behind-spec =

@@ -48,7 +48,8 @@ returns c =
     let at-match = at-put .before .before in
     let at-entry = at-match .before in
     let a = at-entry .before .before .before .args in
-    at-put .put-row .ensures ∙ as-entry (a .out .now) (a .at) (along (at-entry .entry-at .ensures) (a .axes) (a .distance) (at-match .match .keys1))
+    at-put .put-row .ensures
+    ∙ as-entry (a .out .now) (a .at) (along (at-entry .entry-at .ensures) (a .axes) (a .distance) (at-match .match .keys1))
 
 same-length-2 : tie.Need-same-length-2
 same-length-2 c = search needs
@@ -60,7 +61,8 @@ returns-2 c =
     let at-match = at-put .before .before in
     let at-entry = at-match .before in
     let a = at-entry .before .before .before .args in
-    at-put .put-row2 .ensures ∙ as-entry (a .out .now) (a .at) (along (at-entry .entry-at .ensures) (a .axes) (a .distance) (at-match .match .keys2))
+    at-put .put-row2 .ensures
+    ∙ as-entry (a .out .now) (a .at) (along (at-entry .entry-at .ensures) (a .axes) (a .distance) (at-match .match .keys2))
 
 same-length-3 : tie.Need-same-length-3
 same-length-3 c = search needs
@@ -72,7 +74,8 @@ returns-3 c =
     let at-match = at-put .before .before in
     let at-entry = at-match .before in
     let a = at-entry .before .before .before .args in
-    at-put .put-row3 .ensures ∙ as-entry (a .out .now) (a .at) (along (at-entry .entry-at .ensures) (a .axes) (a .distance) (at-match .match .keys3))
+    at-put .put-row3 .ensures
+    ∙ as-entry (a .out .now) (a .at) (along (at-entry .entry-at .ensures) (a .axes) (a .distance) (at-match .match .keys3))
 
 same-length-4 : tie.Need-same-length-4
 same-length-4 c = search needs
@@ -84,7 +87,8 @@ returns-4 c =
     let at-match = at-put .before .before in
     let at-entry = at-match .before in
     let a = at-entry .before .before .before .args in
-    at-put .put-row4 .ensures ∙ as-entry (a .out .now) (a .at) (along (at-entry .entry-at .ensures) (a .axes) (a .distance) (at-match .match .keys4))
+    at-put .put-row4 .ensures
+    ∙ as-entry (a .out .now) (a .at) (along (at-entry .entry-at .ensures) (a .axes) (a .distance) (at-match .match .keys4))
 
 same-length-5 : tie.Need-same-length-5
 same-length-5 c = search needs
@@ -97,7 +101,8 @@ returns-5 c =
     let a = at-entry .before .before .before .args in
     let none = at-match .match .rest in
     at-put .put-raised .ensures
-    ∙ as-entry (a .out .now) (a .at) (other (at-entry .entry-at .ensures) (a .axes) (a .distance) (none .0 .0 .0 .1) (none .0 .0 .1) (none .0 .1) (none .1))
+    ∙ as-entry (a .out .now) (a .at)
+    (other (at-entry .entry-at .ensures) (a .axes) (a .distance) (none .0 .0 .0 .1) (none .0 .0 .1) (none .0 .1) (none .1))
 
 pub put-view-spec : {M : Type 1} → statement M
 put-view-spec =

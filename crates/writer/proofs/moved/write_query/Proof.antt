@@ -1,5 +1,5 @@
--- `writer::moved::write_query` meets its contract. The loop's invariant: what stands for the first i entries is written. The measure is the number of
--- entries that are left. Assumes nothing.
+-- `writer::moved::write_query` meets its contract. The loop's invariant: what stands for the first i entries is written. The measure is the
+-- number of entries that are left. Assumes nothing.
 use Prim.Native.Nat.{_-_, _≤_, _<_}
 use native.Mathlib.Omega.{arith}
 use mathlib.Core.Path.{_≡_, refl}
@@ -15,7 +15,8 @@ use Rattle.writer.proofs.moved.write_query.Tie as tie
 
 abbrev Inv-loop : tie.InvT-loop
 Inv-loop out₀ at query axes distance n i₀ out i =
-    ((i ≤ n) × (n ≡ length (entries query))) × ((length out ≡ length out₀) × (out ≡ laid out₀ at (map (viewEntry axes distance) (take i (entries query)))))
+    ((i ≤ n) × (n ≡ length (entries query))) ×
+    ((length out ≡ length out₀) × (out ≡ laid out₀ at (map (viewEntry axes distance) (take i (entries query)))))
 
 abbrev μ-loop : tie.MeasureT-loop
 μ-loop out₀ at query axes distance n i₀ out i = n - i
@@ -57,7 +58,8 @@ loop-again c =
     let so-far = at-loop .loop .inv in
     let within = at-test .loop-test .taken in
     let next =
-    laid-next (a .out .now) (a .at) (viewEntry (a .axes) (a .distance)) (entries (a .query .now)) (entry 0 0 0) (omega (arith, so-far .0 .1)) (so-far .1 .1) (at-put .put-view .ensures) in
+    laid-next (a .out .now) (a .at) (viewEntry (a .axes) (a .distance)) (entries (a .query .now)) (entry 0 0 0)
+    (omega (arith, so-far .0 .1)) (so-far .1 .1) (at-put .put-view .ensures) in
     ((omega arith, so-far .0 .1), (laid-same (a .out .now) (a .at) _ next, next))
 
 same-length : tie.Need-same-length Inv-loop μ-loop

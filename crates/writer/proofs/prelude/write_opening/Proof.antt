@@ -25,7 +25,8 @@ returns c =
     let two = three .before .before .before .before in
     let one = two .before .before .before .before in
     let out : Bytes = one .before .before .before .args .out .now in
-    laid-step out 0 opening (entry 0 0 0) 2 (lit< tt) (laid-step out 0 opening (entry 0 0 0) 1 (lit< tt) (one .put .ensures) (two .put2 .ensures)) (three .put3 .ensures)
+    laid-step out 0 opening (entry 0 0 0) 2 (lit< tt)
+    (laid-step out 0 opening (entry 0 0 0) 1 (lit< tt) (one .put .ensures) (two .put2 .ensures)) (three .put3 .ensures)
 
 pub write-opening-spec : {M : Type 1} → statement M
 write-opening-spec =

@@ -20,7 +20,8 @@ write-records-requires c κs =
 
 -- behind the records there is room for the rows, and the numbers are short
 known : (c : tie.After-write-records) → let at : ℕ = c .write-records .result in
-    (6 * (at + 56) ≤ length (c .write-records .last .0)) × ((3 ≤ at) × (c .before .before .before .before .before .before .before .before .args .first + at + 56 < 65536))
+    (6 * (at + 56) ≤ length (c .write-records .last .0)) ×
+    ((3 ≤ at) × (c .before .before .before .before .before .before .before .before .args .first + at + 56 < 65536))
 known c =
     let start = c .before .before .before .before .before .before .before .before in
     let count = c .write-records .ensures .0 in
@@ -50,7 +51,9 @@ returns c =
     let at-opening = at-records .before .before .before .before in
     let a = at-opening .before .before .before .before .args in
     let (count, behind) = at-records .write-records .ensures in
-    (omega arith, prelude-laid (a .out .now) (a .first) (records (a .annotation .now)) (at-opening .write-opening .ensures) behind count (at-rows .write-rows .ensures))
+    let opened = at-opening .write-opening .ensures in
+    let rows = at-rows .write-rows .ensures in
+    (omega arith, prelude-laid (a .out .now) (a .first) (records (a .annotation .now)) opened behind count rows)
 
 pub write-prelude-spec : {M : Type 1} → statement M
 write-prelude-spec =

@@ -3,7 +3,7 @@ use Prim.Native.Nat.{_+_}
 use lib.Dec.{lit<}
 use Rattle.reply.specs.Bytes.{Bytes}
 use Rattle.query.specs.Table.{Entries}
-use Rattle.written.specs.Written.{entry, recordEntries}
+use Rattle.written.specs.Written.{entry, nineEntries}
 use Rattle.writer.proofs.Laying.{laid-step}
 use borrow.Author.Needs.{needs}
 use Rattle.writer.proofs.records.put_record.Statement.{statement}
@@ -59,7 +59,7 @@ returns c =
     let pair = first .before .before .before .before in
     let a = pair .before .before .before .args in
     let out : Bytes = a .out .now in
-    let all : Entries = recordEntries (a .first) (a .first + a .at) (record { parent = a .parent; child = a .child; filter = a .filter; rest = 0 }) in
+    let all : Entries = nineEntries (a .first) (a .first + a .at) (a .parent) (a .child) (a .filter) in
     let w7 = laid-step out (a .at) all (entry 0 0 0) 6 (lit< tt) (pair .put-pair .ensures) (first .put .ensures) in
     let w8 = laid-step out (a .at) all (entry 0 0 0) 7 (lit< tt) w7 (second .put2 .ensures) in
     laid-step out (a .at) all (entry 0 0 0) 8 (lit< tt) w8 (third .put3 .ensures)

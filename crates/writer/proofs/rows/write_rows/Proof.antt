@@ -1,5 +1,5 @@
--- `writer::rows::write_rows` meets its contract. The loop's invariant: the first k rows are written. The measure is the number of rows that are left.
--- Assumes nothing.
+-- `writer::rows::write_rows` meets its contract. The loop's invariant: the first k rows are written. The measure is the number of rows that
+-- are left. Assumes nothing.
 use Prim.Native.Nat.{ℕ, _+_, _-_, _≤_}
 use native.Mathlib.Omega.{arith}
 use mathlib.Core.Path.{_≡_, refl}
@@ -43,7 +43,9 @@ loop-again c =
     let at-put = c .before .before in
     let at-loop = at-put .before .before .before in
     let a = at-loop .before .before .args in
-    let next = laid-next (a .out .now) (a .at) (raise (a .distance)) axisRows (entry 0 0 0) (at-put .before .before .loop-test .taken) (at-loop .loop .inv .1 .1) (at-put .put-row .ensures) in
+    let next =
+    laid-next (a .out .now) (a .at) (raise (a .distance)) axisRows (entry 0 0 0) (at-put .before .before .loop-test .taken)
+    (at-loop .loop .inv .1 .1) (at-put .put-row .ensures) in
     (omega arith, (laid-same (a .out .now) (a .at) _ next, next))
 
 same-length : tie.Need-same-length Inv-loop μ-loop
