@@ -1,9 +1,8 @@
 -- What an entry in order stands for: the path or filter of its kind, over what its operands stand for. One law for all kinds, and a line for
 -- each of them, so that nobody who goes through a table unfolds how it is read. Assumes nothing.
 use Prim.Native.Nat.{ℕ, _≤_, _<_}
-use native.Mathlib.Omega.{arith}
 use mathlib.Core.Path.{_≡_, refl, sym, ap, ap₂, _∙_}
-use mathlib.Core.List.{List, [], _∷_}
+use mathlib.Core.List.{List}
 use mathlib.Core.Option.{Option, none, some}
 use mathlib.Core.Bool.{Bool, _&&_}
 use lib.Dec.{T, leb, leb→le}
@@ -11,9 +10,8 @@ use mir.Facts.{and-yes}
 use lib.ListN.{length, getD, take}
 use lib.Seq.{getD-take}
 use Rattle.query.specs.Syntax as syntax
-use Rattle.query.specs.Syntax.{Path, Filter}
-use Rattle.query.specs.Kind.{Sort, path, filter, Operand, unused, of, Kind, Row, kinds, find, rowOf}
-use Rattle.query.specs.Table.{Entry, Entries, entryAt, rowAt, OperandField, EntryRight, HasSort, Meant, a-path, a-filter, thePath, theFilter, pathIn, filterIn, build, mean, meanings, pathAt, filterAt}
+use Rattle.query.specs.Kind.{Sort, path, filter, of, Row, kinds, find, rowOf}
+use Rattle.query.specs.Table.{Entry, Entries, entryAt, rowAt, OperandField, EntryRight, HasSort, Meant, a-path, thePath, theFilter, pathIn, filterIn, build, mean, meanings, pathAt, filterAt}
 use Rattle.query.proofs.Rows.{found}
 use Rattle.query.proofs.Tables.{read-at}
 

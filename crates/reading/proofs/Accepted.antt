@@ -1,10 +1,9 @@
 -- The table of a text is a curator's query exactly if it fits: what call 2 writes, the calls that take a query accept. Assumes nothing.
-use Prim.Native.Nat.{_-_, _*_, _≤_, _<_}
+use Prim.Native.Nat.{_-_, _≤_, _<_}
 use native.Mathlib.Omega.{arith}
-use mathlib.Core.Path.{_≡_, refl, sym, subst}
-use mathlib.Core.List.{[], _∷_}
+use mathlib.Core.Path.{_≡_, sym, subst}
 use lib.ListN.{length}
-use Rattle.reply.specs.Bytes.{Bytes, twoBytes}
+use Rattle.reply.specs.Bytes.{Bytes}
 use Rattle.query.specs.Kind.{path}
 use Rattle.query.specs.Syntax.{Path}
 use Rattle.query.specs.Table.{Entries, entries, entryBytes, heightAt, HasSort, EntryRight}

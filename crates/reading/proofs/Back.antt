@@ -1,12 +1,11 @@
 -- A path's table, read back, stands for the path, and its bytes are read back as its entries. Assumes nothing.
-use Prim.Native.Nat.{ℕ, _+_, _-_, _/_, _%_, _≤_, _<_}
+use Prim.Native.Nat.{ℕ, _+_, _-_, _≤_, _<_}
 use native.Mathlib.Nat.{zero-add}
 use native.Mathlib.Omega.{arith}
 use mathlib.Core.Path.{_≡_, refl, ap, _∙_}
 use mathlib.Core.List.{List, [], _∷_, _++_, append-assoc}
 use lib.ListN.{length, getD, length-append}
 use lib.Seq.{getD-at}
-use Rattle.reply.specs.Bytes.{two, twoBytes}
 use Rattle.query.specs.Kind.{find, kinds}
 use Rattle.query.specs.Syntax.{Path, self, child, parent, next, previous, stay, then, either, star}
 use Rattle.query.specs.Syntax.{Filter, labelled, leads, always, never, not, and, or}

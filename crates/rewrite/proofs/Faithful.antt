@@ -1,5 +1,4 @@
 -- Demand 3 for rolls and annotations: a query rewritten by the filter for visible is faithful, on every accepted roll. Assumes nothing.
-use Prim.Native.Nat.{ℕ}
 use Rattle.reply.specs.Bytes.{Bytes}
 use Rattle.roll.specs.Roll.{nodes}
 use Rattle.roll.proofs.Deciding.{roll-in-order, roll-root}

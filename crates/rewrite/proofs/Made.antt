@@ -1,9 +1,9 @@
 -- What is in the room once the filter table is copied and the rest is written behind it: a table that call 3 accepts, and that does on
 -- every roll what the query does on the view. Assumes nothing.
-use Prim.Native.Nat.{ℕ, _+_, _-_, _*_, _/_, _≤_, _<_}
+use Prim.Native.Nat.{ℕ, _+_, _-_, _*_, _≤_, _<_}
 use native.Mathlib.Nat.{zero-add}
 use native.Mathlib.Omega.{arith}
-use mathlib.Core.Path.{_≡_, refl, sym, ap, _∙_, subst}
+use mathlib.Core.Path.{_≡_, sym, ap, _∙_, subst}
 use mathlib.Core.List.{List, [], _++_, append-assoc, append-nil}
 use lib.ListN.{length, take, drop, length-append, length-drop, drop-of-length-le}
 use lib.Seq.{sets-eq, take-all, take-length, take-at, drop-at, drop-drop}

@@ -1,10 +1,10 @@
 -- Entries that are added to a table in turn. Assumes nothing.
 use Prim.Native.Nat.{ℕ, _+_, _*_}
 use native.Mathlib.Omega.{arith}
-use mathlib.Core.Path.{_≡_, refl}
-use mathlib.Core.List.{[], _∷_, _++_, append-assoc}
+use mathlib.Core.Path.{_≡_}
+use mathlib.Core.List.{_++_, append-assoc}
 use lib.ListN.{length, take, length-append}
-use Rattle.reply.specs.Bytes.{Bytes, twoBytes}
+use Rattle.reply.specs.Bytes.{Bytes}
 use Rattle.query.specs.Table.{Entries, entryBytes}
 use Rattle.query.proofs.Bytes.{bytes-of-both}
 use Rattle.tokens.specs.Reading.{Added}

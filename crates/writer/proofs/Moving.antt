@@ -6,12 +6,12 @@ use mathlib.Core.Path.{_≡_, refl, sym, ap, _∙_}
 use mathlib.Core.Bool.{Bool, true, false}
 use Rattle.query.specs.Kind.{Sort, path, filter}
 use Rattle.query.specs.Table as table
-use Rattle.query.specs.Table.{Entries, entryAt, HasSort, LabelField, EntryRight}
+use Rattle.query.specs.Table.{Entries, entryAt, LabelField, EntryRight}
 use Rattle.query.proofs.Standing.{path-kind, filter-kind}
 use Rattle.tables.specs.declared.entry.Entry.{Entry}
 use Rattle.tables.specs.Fields.{Fields}
 use Rattle.written.proofs.Back.{operand-small}
-use Rattle.written.specs.Written.{raise, axisRow, chosen, viewEntry}
+use Rattle.written.specs.Written.{raise, chosen, viewEntry}
 use Rattle.writer.specs.Laid.{fields, ByteFields, Short}
 
 -- the entry that a struct was read from

@@ -1,7 +1,6 @@
 -- What the writer leaves in the part of the room that it is lent, and what it must be given. Nothing here has to be believed: call 5's
 -- promise is stated without it.
 use Prim.Native.Nat.{ℕ, _+_, _*_, _≤_, _<_}
-use mathlib.Core.List.{[], _∷_}
 use lib.ListN.{length}
 use lib.Seq.{sets}
 use Rattle.reply.specs.Bytes.{Bytes}

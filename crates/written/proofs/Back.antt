@@ -1,13 +1,13 @@
 -- What is written in bytes is read back as the table. Assumes nothing.
-use Prim.Native.Nat.{ℕ, suc, _+_, _%_, _≤_, _<_}
+use Prim.Native.Nat.{ℕ, _%_, _≤_, _<_}
 use native.Mathlib.Omega.{arith}
-use mathlib.Core.Path.{_≡_, refl, sym, ap, _∙_, subst}
+use mathlib.Core.Path.{_≡_, refl, ap, _∙_}
 use mathlib.Core.List.{[], _∷_, _++_, append-assoc}
 use lib.ListN.{length, length-append}
 use lib.Seq.{getD-at}
 use Rattle.reply.specs.Bytes.{Bytes}
 use Rattle.query.specs.Kind.{Operand, unused, of}
-use Rattle.query.specs.Table.{Entry, Entries, entries, entryAt, entryBytes, OperandField, EntryRight}
+use Rattle.query.specs.Table.{Entries, entries, entryAt, entryBytes, OperandField, EntryRight}
 use Rattle.query.proofs.Bytes.{Below, none, one, entries-of-both, entries-back}
 use Rattle.written.proofs.Stands.{Sound}
 

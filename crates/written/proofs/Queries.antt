@@ -1,21 +1,21 @@
 -- The query's own entries: behind a table in which the axes' rows stand, the entry for each entry of the query stands for the rewriting of
 -- what that entry stands for. By induction over the entries, each seen once. Assumes nothing.
-use Prim.Native.Nat.{ℕ, suc, _+_, _≤_, _<_}
+use Prim.Native.Nat.{ℕ, _+_, _≤_, _<_}
 use native.Mathlib.Omega.{arith}
-use mathlib.Core.Path.{_≡_, refl, sym, ap, ap₂, _∙_, subst}
+use mathlib.Core.Path.{_≡_, refl, sym, ap, ap₂, _∙_}
 use mathlib.Core.List.{List, [], _∷_, _++_, map, append-assoc, append-nil, map-append}
 use mathlib.Core.Option.{some}
 use lib.ListN.{length, getD, length-map, length-append, List·getD-map, List·getD-append}
 use lib.Seq.{getD-at}
 use Rattle.query.specs.Syntax as syntax
 use Rattle.query.specs.Syntax.{Path, Filter}
-use Rattle.query.specs.Kind.{Sort, path, filter, Operand, unused, of, Kind, self, child, parent, next, previous, stay, then, either, star, labelled, leads, always, never, not, and, or, Row, kinds, rowOf}
+use Rattle.query.specs.Kind.{Sort, Operand, unused, of, Kind, self, child, parent, next, previous, stay, then, either, star, labelled, leads, always, never, not, and, or, Row, kinds, rowOf}
 use Rattle.query.specs.Table.{Entry, Entries, entryAt, rowAt, HasSort, OperandField, EntryRight, readOn, height, heightAt, Meant, a-path, a-filter, thePath, theFilter, pathIn, filterIn, build, mean, meanings}
 use Rattle.query.proofs.Rows.{rowFor, row-found}
 use Rattle.query.proofs.Tables.{read-length, read-append, read-prefix}
 use Rattle.rewriting.proofs.Rewriting.{rewritten, rewrittenFilter}
 use Rattle.written.specs.Written.{raise, axisRow, chosen, viewEntry}
-use Rattle.written.proofs.Stands.{nothing, sortFor, Sound, at-end, sound-end, Behind, behind-as, Named, Ordered, Stood, stood-kept, Next, next-end, stood-end, entry-behind, mean-listed, height-listed, meant-sorted}
+use Rattle.written.proofs.Stands.{nothing, sortFor, Sound, at-end, sound-end, Behind, behind-as, Named, Ordered, Stood, stood-kept, Next, stood-end, entry-behind, mean-listed, height-listed, meant-sorted}
 use Rattle.written.proofs.Axes.{seenBy, rowsMeant, rowsHeights, AxisRow, axis-rows, axis-behind}
 
 module _ (vis : Filter) where
@@ -114,17 +114,17 @@ module _ (own shown : Filter) {c : ℕ} (d base : ℕ) {table : Entries}
         rw (kept, ← means) (entry-behind stood ordered)
 
     -- a step along an axis becomes that axis's last row
-    along : {p : Path} {row : Entry} → viewEntry d base e ≡ raise d row → AxisRow own shown row p → For (a-path p)
-    along same axis = rw same (behind-as (omega (arith, height-listed hs e (ordered .listed))) (axis-behind d rows axis))
+    along : {p : Path} (row : Entry) → viewEntry d base e ≡ raise d row → AxisRow own shown row p → For (a-path p)
+    along row same axis = rw same (behind-as (omega (arith, height-listed hs e (ordered .listed))) (axis-behind d rows axis))
 
     by-kind : (kind : Kind) → rowOf (e .kind) ≡ some (rowFor kind) → e .kind ≡ rowFor kind .number
         → For (carry (seenBy own shown) (build s kind e))
     unfolding viewEntry chosen rowFor kinds build rewritten
     by-kind self listed is = other self tt listed refl (ap (chosen d (raise base e)) is)
-    by-kind child listed is = along (ap (chosen d (raise base e)) is) (axis-rows own shown .down)
-    by-kind parent listed is = along (ap (chosen d (raise base e)) is) (axis-rows own shown .up)
-    by-kind next listed is = along (ap (chosen d (raise base e)) is) (axis-rows own shown .forwards)
-    by-kind previous listed is = along (ap (chosen d (raise base e)) is) (axis-rows own shown .backwards)
+    by-kind child listed is = along (axisRow 18) (ap (chosen d (raise base e)) is) (axis-rows own shown .down)
+    by-kind parent listed is = along (axisRow 22) (ap (chosen d (raise base e)) is) (axis-rows own shown .up)
+    by-kind next listed is = along (axisRow 44) (ap (chosen d (raise base e)) is) (axis-rows own shown .forwards)
+    by-kind previous listed is = along (axisRow 55) (ap (chosen d (raise base e)) is) (axis-rows own shown .backwards)
     by-kind stay listed is = other stay tt listed refl (ap (chosen d (raise base e)) is)
     by-kind then listed is = other then tt listed refl (ap (chosen d (raise base e)) is)
     by-kind either listed is = other either tt listed refl (ap (chosen d (raise base e)) is)

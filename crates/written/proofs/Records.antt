@@ -2,15 +2,14 @@
 -- and whether one of them shows it. Assumes nothing.
 use Prim.Native.Nat.{ℕ, zero, suc, _+_, _-_, _*_, _≤_, _<_}
 use native.Mathlib.Omega.{arith}
-use mathlib.Core.Path.{_≡_, refl, sym, ap, _∙_, subst}
-use mathlib.Core.Bool.{Bool, true, false}
+use mathlib.Core.Path.{_≡_, refl, sym, _∙_}
 use mathlib.Core.List.{List, [], _∷_, _++_, map}
 use lib.ListN.{length, getD, length-append}
 use Rattle.tree.specs.Tree.{Label}
 use Rattle.query.specs.Syntax as syntax
 use Rattle.query.specs.Syntax.{Filter, or}
 use Rattle.query.specs.Kind.{filter, kinds, find}
-use Rattle.query.specs.Table.{Entry, Entries, LabelField, readOn, operandHeight, height, Meant, a-path, a-filter, thePath, theFilter, pathIn, filterIn, build, mean, filterAt}
+use Rattle.query.specs.Table.{Entries, LabelField, readOn, operandHeight, height, Meant, a-path, a-filter, thePath, theFilter, pathIn, filterIn, build, mean, filterAt}
 use Rattle.view.specs.Annotation.{AnnotationRecord, RecordForm, Rule}
 use Rattle.rewriting.proofs.VisibleFilter.{someOf, pairOf, showing}
 use Rattle.written.specs.Written.{entry, labelEntry, moved, renumber, opening, recordEntries}

@@ -10,7 +10,7 @@ use mathlib.Core.Option.{Option, none, some}
 use lib.ListN.{length, getD, take, length-append, List·getD-append}
 use lib.Seq.{getD-at}
 use Rattle.query.specs.Syntax as syntax
-use Rattle.query.specs.Kind.{Sort, path, filter, Operand, unused, of, Kind, self, child, parent, next, previous, stay, then, either, star, labelled, leads, always, never, not, and, or, Row, kinds, find, rowOf}
+use Rattle.query.specs.Kind.{Sort, path, filter, Operand, unused, of, Kind, self, child, parent, next, previous, stay, then, either, star, labelled, leads, always, never, not, and, or, Row, kinds, rowOf}
 use Rattle.query.specs.Table.{Entry, Entries, entryAt, rowAt, HasSort, LabelField, OperandField, EntryRight, readOn, operandHeight, height, heightAt, Meant, a-path, a-filter, thePath, theFilter, pathIn, filterIn, build, mean, meanings, filterAt}
 use Rattle.query.proofs.Rows.{rowFor, row-found}
 use Rattle.query.proofs.Tables.{read-length, read-append, read-prefix, read-at}

@@ -3,18 +3,18 @@
 use Prim.Native.Nat.{ℕ, suc, _+_, _-_, _*_, _≤_, _<_}
 use native.Mathlib.Nat.{le-refl}
 use native.Mathlib.Omega.{arith}
-use mathlib.Core.Path.{_≡_, refl, sym, ap, _∙_, subst}
+use mathlib.Core.Path.{_≡_, refl, sym, ap, _∙_}
 use mathlib.Core.List.{List, [], _∷_, _++_, map, append-assoc, append-nil}
-use lib.ListN.{length, getD, length-append, length-map, List·getD-map}
-use Rattle.query.specs.Syntax.{Path, Filter}
+use lib.ListN.{length, getD, length-append, length-map}
+use Rattle.query.specs.Syntax.{Filter}
 use Rattle.query.specs.Kind.{path}
-use Rattle.query.specs.Table.{Entry, Entries, HasSort, EntryRight, height, heightAt, readOn, Meant, thePath, pathIn, mean, meanings, pathAt, queryOf}
+use Rattle.query.specs.Table.{Entry, Entries, HasSort, EntryRight, height, heightAt, readOn, thePath, pathIn, mean, meanings, pathAt, queryOf}
 use Rattle.query.proofs.Tables.{read-length}
 use Rattle.view.specs.Annotation.{AnnotationRecord, recordAt, RecordForm, Rule}
 use Rattle.rewriting.proofs.Rewriting.{rewritten}
 use Rattle.rewriting.proofs.VisibleFilter.{someOf, pairOf, showing, climbing, visibleBy}
 use Rattle.written.specs.Written.{raise, opening, recordEntries, recordsEntries, axisRows, prelude, preludeSize, viewEntry, written}
-use Rattle.written.proofs.Stands.{nothing, sortFor, Stands, stands-as, Sound, Stood, meant-sorted}
+use Rattle.written.proofs.Stands.{nothing, sortFor, stands-as, Sound, Stood, meant-sorted}
 use Rattle.written.proofs.Axes.{seenBy, rowsMeant, rowsHeights, rows-stood, rows-sound}
 use Rattle.written.proofs.Records.{ruleOf, Stage, stage-begins, stage-more}
 use Rattle.written.proofs.Queries.{carry, carry-sort, carry-at, path-in, drawn-whole, sound-whole}

@@ -1,7 +1,7 @@
 -- `rewrite::write_rewritten` meets its contract. Assumes nothing.
 use native.Mathlib.Omega.{arith}
 use Rattle.query.proofs.Tables.{entries-length}
-use Rattle.rewrite.proofs.Made.{copy-fits, writer-given, made, short-count}
+use Rattle.rewrite.proofs.Made.{writer-given, made, short-count}
 use borrow.Author.Needs.{needs}
 use Rattle.rewrite.proofs.write_rewritten.Statement.{statement}
 use Rattle.rewrite.proofs.write_rewritten.Tie as tie

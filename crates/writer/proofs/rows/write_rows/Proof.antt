@@ -1,6 +1,6 @@
 -- `writer::rows::write_rows` meets its contract. The loop's invariant: the first k rows are written. The measure is the number of rows that
 -- are left. Assumes nothing.
-use Prim.Native.Nat.{ℕ, _+_, _-_, _≤_}
+use Prim.Native.Nat.{_-_, _≤_}
 use native.Mathlib.Omega.{arith}
 use mathlib.Core.Path.{_≡_, refl}
 use mathlib.Core.List.{map}
