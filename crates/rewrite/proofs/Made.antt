@@ -5,6 +5,7 @@ use native.Mathlib.Nat.{zero-add}
 use native.Mathlib.Omega.{arith}
 use mathlib.Core.Path.{_≡_, sym, ap, _∙_, subst}
 use mathlib.Core.List.{List, [], _++_, append-assoc, append-nil}
+use lib.Dec.{lit≤}
 use lib.ListN.{length, take, drop, length-append, length-drop, drop-of-length-le}
 use lib.Seq.{sets-eq, take-all, take-length, take-at, drop-at, drop-drop}
 use Rattle.reply.specs.Bytes.{Bytes, Written}
@@ -98,8 +99,10 @@ module _ {annotation filters query : Bytes} (annotated : Annotated annotation fi
   few-records = omega (arith, records-length annotation, entries-length annotation, annotated .records .size .most)
 
   few-own : (1 ≤ length own) × (length own ≤ 256)
-  few-own = let e = entries-length query in let s =
-      asked .size .size in (omega (arith, asked .size .some, s .multiple), omega (arith, s .most))
+  few-own =
+      let many = entries-length query in
+      let size = asked .size .size in
+      (omega (arith, asked .size .some, size .multiple), omega (arith, size .most))
 
   -- what is known of each
   sound : Sound front 16
@@ -118,12 +121,13 @@ module _ {annotation filters query : Bytes} (annotated : Annotated annotation fi
   count : length behind ≡ preludeSize (length rs) + length own
   count = written-size (length front) rs own
 
+  -- 256 of the filter table, 256 of the query, 9 for each of 32 records, and 59
   few : length (front ++ behind) ≤ 859
   few = let f = few-filters in let r = few-records in let q = few-own in omega (arith, table-size sound rs forms own-right)
 
-  table-sound-here : Sound (front ++ behind) (72 + length rs)
-  table-sound-here = let s =
-      table-sound sound rs forms own-right {high = 32} (omega arith) own-low in subst (Sound (front ++ behind)) (omega arith) s
+  -- the heights 32 and 16, one for each record, and 24
+  table-sound-here : Sound (front ++ behind) (32 + 16 + length rs + 24)
+  table-sound-here = table-sound sound rs forms own-right (lit≤ tt) own-low
 
   -- the bytes are read back as the table
   back : entries (filters ++ entryBytes behind) ≡ front ++ behind
@@ -140,7 +144,6 @@ module _ {annotation filters query : Bytes} (annotated : Annotated annotation fi
       let f = few in
       let e = entries-length filters in
       let r = few-records in
-      let q = few-own in
       let stands = table-stands sound rs forms own-right (few-own .0) (asked .path) in
       record {
         size = record { some = omega (arith, count); size = record { multiple = omega arith; most = omega arith } };
