@@ -14,6 +14,41 @@ extern "C" {
         room_len: usize,
         told: *mut usize,
     ) -> u64;
+    fn kepolas_cut_view(
+        roll: *const u8,
+        roll_len: usize,
+        annotation: *const u8,
+        annotation_len: usize,
+        filters: *const u8,
+        filters_len: usize,
+        room: *mut u8,
+        room_len: usize,
+        told: *mut usize,
+    ) -> u64;
+    fn kepolas_rewrite(
+        annotation: *const u8,
+        annotation_len: usize,
+        filters: *const u8,
+        filters_len: usize,
+        query: *const u8,
+        query_len: usize,
+        room: *mut u8,
+        room_len: usize,
+        told: *mut usize,
+    ) -> u64;
+    fn kepolas_curators_answer(
+        roll: *const u8,
+        roll_len: usize,
+        annotation: *const u8,
+        annotation_len: usize,
+        filters: *const u8,
+        filters_len: usize,
+        query: *const u8,
+        query_len: usize,
+        room: *mut u8,
+        room_len: usize,
+        told: *mut usize,
+    ) -> u64;
     fn kepolas_run_of(roll: *const u8, roll_len: usize, record: usize, start: *mut usize, end: *mut usize);
     fn probe_check_query(query: *const u8, query_len: usize, told: *mut usize) -> u64;
 }
@@ -48,6 +83,72 @@ pub fn answer_on_roll(roll: &[u8], query: &[u8], room: &mut [u8]) -> Reply {
     // SAFETY: as above.
     heard(|told| unsafe {
         kepolas_answer_on_roll(roll, roll_len, query, query_len, room.as_mut_ptr(), room.len(), told)
+    })
+}
+
+/// Call 4.
+pub fn cut_view(roll: &[u8], annotation: &[u8], filters: &[u8], room: &mut [u8]) -> Reply {
+    let (roll, roll_len, annotation, annotation_len) =
+        (roll.as_ptr(), roll.len(), annotation.as_ptr(), annotation.len());
+    let (filters, filters_len, room_len) = (filters.as_ptr(), filters.len(), room.len());
+    // SAFETY: as above.
+    heard(|told| unsafe {
+        kepolas_cut_view(
+            roll,
+            roll_len,
+            annotation,
+            annotation_len,
+            filters,
+            filters_len,
+            room.as_mut_ptr(),
+            room_len,
+            told,
+        )
+    })
+}
+
+/// Call 5.
+pub fn rewrite(annotation: &[u8], filters: &[u8], query: &[u8], room: &mut [u8]) -> Reply {
+    let (annotation, annotation_len, filters, filters_len) =
+        (annotation.as_ptr(), annotation.len(), filters.as_ptr(), filters.len());
+    let (query, query_len, room_len) = (query.as_ptr(), query.len(), room.len());
+    // SAFETY: as above.
+    heard(|told| unsafe {
+        kepolas_rewrite(
+            annotation,
+            annotation_len,
+            filters,
+            filters_len,
+            query,
+            query_len,
+            room.as_mut_ptr(),
+            room_len,
+            told,
+        )
+    })
+}
+
+/// Call 6.
+pub fn curators_answer(roll: &[u8], annotation: &[u8], filters: &[u8], query: &[u8], room: &mut [u8]) -> Reply {
+    let (roll, roll_len, annotation, annotation_len) =
+        (roll.as_ptr(), roll.len(), annotation.as_ptr(), annotation.len());
+    let (filters, filters_len, query, query_len) = (filters.as_ptr(), filters.len(), query.as_ptr(), query.len());
+    let room_len = room.len();
+    // SAFETY: as above.
+    heard(|told| unsafe {
+        kepolas_curators_answer(
+            roll,
+            roll_len,
+            annotation,
+            annotation_len,
+            filters,
+            filters_len,
+            query,
+            query_len,
+            room.as_mut_ptr(),
+            room_len,
+            told,
+        )
     })
 }
 

@@ -4,6 +4,7 @@ mod common;
 
 use std::collections::BTreeSet;
 
+use common::tables::{spoil, table_of, Table, FILTERS, PATHS};
 use common::{cases, chain, entry, from_hex, grown_roll, node, wide, Chance, NO_PARENT, UNTOUCHED};
 use second::calls::nodes_of_bitmap;
 use second::Reply;
@@ -17,13 +18,6 @@ fn same(roll: &[u8], query: &[u8], room: usize) -> Reply {
     assert_eq!(reply, second::answer_on_roll(roll, query, &mut theirs), "{query:?} on {roll:?}");
     assert_eq!(ours, theirs, "{query:?} on {roll:?}");
     reply
-}
-
-/// The table of a text, as the proved reader writes it.
-fn table_of(text: &str) -> Vec<u8> {
-    let mut room = [0; 1536];
-    let Reply::Count(entries) = compare::read_text(text.as_bytes(), &mut room) else { panic!("{text}") };
-    room[..entries * 6].to_vec()
 }
 
 /// The records that a text reaches.
@@ -74,87 +68,6 @@ fn the_listed_draws() {
     }
 }
 
-/// A table as it grows, with the paths and the filters in it, and how many entries each one unfolds to: the library walks an entry as often
-/// as it is used, so a table of a few dozen entries can take longer than anyone waits.
-#[derive(Default)]
-struct Table {
-    bytes: Vec<u8>,
-    paths: Vec<usize>,
-    filters: Vec<usize>,
-    unfolds: Vec<usize>,
-}
-
-const LARGEST: usize = 300;
-const PATHS: [u8; 9] = [1, 2, 3, 4, 5, 6, 7, 8, 9];
-const FILTERS: [u8; 7] = [16, 17, 18, 19, 20, 21, 22];
-
-impl Table {
-    fn push(&mut self, kind: u8, label: u8, left: usize, right: usize) -> usize {
-        let at = self.unfolds.len();
-        self.bytes.extend(entry(kind, label, left, right));
-        if kind < 16 { &mut self.paths } else { &mut self.filters }.push(at);
-        self.unfolds.push(match kind {
-            7 | 8 | 21 | 22 => 1 + self.unfolds[left] + self.unfolds[right],
-            6 | 9 | 17 | 20 => 1 + self.unfolds[left],
-            _ => 1,
-        });
-        at
-    }
-
-    /// An earlier entry of a sort, mostly one of the last, unless it unfolds to too much.
-    fn operand(&self, chance: &mut Chance, path: bool) -> Option<usize> {
-        let sort = if path { &self.paths } else { &self.filters };
-        let last = if chance.below(3) == 0 { sort.len() } else { sort.len().min(3) };
-        let picked = if last == 0 { None } else { sort.get(sort.len() - 1 - chance.below(last)).copied() };
-        picked.filter(|entry| self.unfolds[*entry] < LARGEST / 2)
-    }
-
-    /// One more entry: of this kind, if there are operands for it.
-    fn grow(&mut self, chance: &mut Chance, kind: u8) -> Option<usize> {
-        let label = 1 + chance.below(3) as u8;
-        Some(match kind {
-            6 | 20 => self.push(kind, 0, self.operand(chance, false)?, 0),
-            9 | 17 => self.push(kind, 0, self.operand(chance, true)?, 0),
-            7 | 8 => self.push(kind, 0, self.operand(chance, true)?, self.operand(chance, true)?),
-            21 | 22 => self.push(kind, 0, self.operand(chance, false)?, self.operand(chance, false)?),
-            16 => self.push(kind, label, 0, 0),
-            _ => self.push(kind, 0, 0, 0),
-        })
-    }
-
-    /// A table whose last entry is a path; half of them start from every node.
-    fn grown(chance: &mut Chance) -> Table {
-        let mut table = Table::default();
-        for _ in 0..1 + chance.below(16) {
-            let kind = if chance.below(5) < 3 { chance.pick(&PATHS) } else { chance.pick(&FILTERS) };
-            table.grow(chance, kind);
-        }
-        let mut last = table.unfolds.len().wrapping_sub(1);
-        if !table.paths.contains(&last) {
-            last = if table.filters.contains(&last) { table.push(6, 0, last, 0) } else { table.push(2, 0, 0, 0) };
-        }
-        if chance.below(2) == 0 {
-            let child = table.push(2, 0, 0, 0);
-            let all = table.push(9, 0, child, 0);
-            table.push(7, 0, all, last);
-        }
-        table
-    }
-}
-
-/// A byte changed, struck out or put in, or the end cut off.
-fn spoil(chance: &mut Chance, bytes: &mut Vec<u8>) {
-    let at = chance.below(bytes.len());
-    let byte = [0, 1, 2, 7, 16, 17, 64, 65, 255, bytes[at] ^ 1][chance.below(10)];
-    match chance.below(8) {
-        0 => drop(bytes.remove(at)),
-        1 => bytes.insert(at, byte),
-        2 => bytes.truncate(at),
-        3 => bytes.truncate(at / 6 * 6),
-        _ => bytes[at] = byte,
-    }
-}
-
 #[test]
 fn grown_tables_and_spoilt_ones() {
     let mut chance = Chance(0x5eed_0005);
@@ -165,7 +78,7 @@ fn grown_tables_and_spoilt_ones() {
         let most = if chance.below(8) == 0 { 200 } else { 24 };
         let size = 1 + chance.below(most);
         let mut roll = grown_roll(&mut chance, size, 3);
-        let mut query = Table::grown(&mut chance).bytes;
+        let mut query = Table::query(&mut chance).bytes;
         match same(&roll, &query, ROOM + chance.below(2)) {
             Reply::Count(0) => empty += 1,
             Reply::Count(1) => one += 1,

@@ -1,6 +1,9 @@
 //! Chance with a fixed seed, bytes in hex, and records.
 #![allow(dead_code)]
 
+pub mod annotated;
+pub mod tables;
+
 /// What rooms hold before a call.
 pub const UNTOUCHED: u8 = 0xA5;
 

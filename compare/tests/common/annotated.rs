@@ -1,0 +1,58 @@
+//! Rolls with an annotation and its filter table: document 01's, and such that grow by chance.
+
+use second::annotation::Annotation;
+use second::roll::Tree;
+use second::table::{read_filters, FILTER_TABLE};
+use second::view::View;
+
+use super::tables::{spoil, Table, LABELS};
+use super::{entry, grown_roll, Chance};
+
+pub struct Annotated {
+    pub roll: Vec<u8>,
+    pub annotation: Vec<u8>,
+    pub filters: Vec<u8>,
+}
+
+impl Annotated {
+    /// Document 01's roll to work with.
+    pub fn worked() -> Annotated {
+        Annotated {
+            roll: include_bytes!("../../../example/roll.rec").to_vec(),
+            annotation: include_bytes!("../../../example/view.rec").to_vec(),
+            filters: include_bytes!("../../../example/filters.rec").to_vec(),
+        }
+    }
+
+    /// A roll of at most so many nodes; most pairs of labels have a record. One in eight has no record.
+    pub fn grown(chance: &mut Chance, most: usize) -> Annotated {
+        let tries = chance.below(24);
+        let filters = Table::within(FILTER_TABLE.height, 60).grown(chance, tries);
+        let mut annotation = Vec::new();
+        let none = filters.filters.is_empty() || chance.below(8) == 0;
+        for pair in 0..LABELS * LABELS {
+            if !none && chance.below(3) > 0 {
+                let filter = chance.pick(&filters.filters);
+                annotation.extend(entry(1 + (pair / LABELS) as u8, 1 + (pair % LABELS) as u8, filter, 0));
+            }
+        }
+        let size = 1 + chance.below(most);
+        Annotated { roll: grown_roll(chance, size, LABELS), annotation, filters: filters.bytes }
+    }
+
+    /// Damage to one or more of the three.
+    pub fn spoil(&mut self, chance: &mut Chance) {
+        for bytes in [&mut self.roll, &mut self.annotation, &mut self.filters] {
+            if chance.below(3) == 0 {
+                spoil(chance, bytes);
+            }
+        }
+    }
+
+    /// The view, as the second program cuts it out of a roll that is in order.
+    pub fn view(&self) -> View {
+        let filters = read_filters(&self.filters).expect("the filters are in order");
+        let annotation = Annotation::read(&self.annotation, &filters).expect("the annotation is in order");
+        View::cut(&Tree::read(&self.roll).expect("the roll is in order"), &annotation, &filters)
+    }
+}

@@ -1,0 +1,125 @@
+//! Query tables that grow by chance, within limits, and damage to bytes.
+
+use second::Reply;
+
+use super::{entry, Chance};
+
+/// The table of a text, as the proved reader writes it.
+pub fn table_of(text: &str) -> Vec<u8> {
+    let mut room = [0; 1536];
+    let Reply::Count(entries) = compare::read_text(text.as_bytes(), &mut room) else { panic!("{text}") };
+    room[..entries * 6].to_vec()
+}
+
+/// A table as it grows, with the paths and the filters in it, and how high each entry is and how many entries it unfolds to: the library
+/// walks an entry as often as it is used, so a table of a few dozen entries can take longer than anyone waits.
+#[derive(Default)]
+pub struct Table {
+    pub bytes: Vec<u8>,
+    pub filters: Vec<usize>,
+    paths: Vec<usize>,
+    heights: Vec<usize>,
+    unfolds: Vec<usize>,
+    highest: usize,
+    largest: usize,
+}
+
+pub const PATHS: [u8; 9] = [1, 2, 3, 4, 5, 6, 7, 8, 9];
+pub const FILTERS: [u8; 7] = [16, 17, 18, 19, 20, 21, 22];
+
+/// Labels in tables and rolls that belong together are 1, 2 and 3.
+pub const LABELS: usize = 3;
+
+impl Table {
+    /// An empty table whose entries are to be no higher and to unfold to no more than this.
+    pub fn within(highest: usize, largest: usize) -> Table {
+        Table { highest, largest, ..Table::default() }
+    }
+
+    /// How many entries there are.
+    pub fn len(&self) -> usize {
+        self.heights.len()
+    }
+
+    fn push(&mut self, kind: u8, label: u8, left: usize, right: usize) -> usize {
+        let at = self.len();
+        let operands: &[usize] = match kind {
+            7 | 8 | 21 | 22 => &[left, right],
+            6 | 9 | 17 | 20 => &[left],
+            _ => &[],
+        };
+        let below = operands.iter().map(|operand| self.heights[*operand]).max();
+        let unfolds = operands.iter().map(|operand| self.unfolds[*operand]).sum::<usize>();
+        self.bytes.extend(entry(kind, label, left, right));
+        if kind < 16 { &mut self.paths } else { &mut self.filters }.push(at);
+        self.heights.push(1 + below.unwrap_or(0));
+        self.unfolds.push(1 + unfolds);
+        at
+    }
+
+    /// An earlier entry of a sort, mostly one of the last, unless it is too high or unfolds to too much.
+    fn operand(&self, chance: &mut Chance, path: bool) -> Option<usize> {
+        let sort = if path { &self.paths } else { &self.filters };
+        let last = if chance.below(3) == 0 { sort.len() } else { sort.len().min(3) };
+        let picked = if last == 0 { None } else { sort.get(sort.len() - 1 - chance.below(last)).copied() };
+        picked.filter(|entry| self.heights[*entry] < self.highest && self.unfolds[*entry] < self.largest / 2)
+    }
+
+    /// One more entry: of this kind, if there are operands for it.
+    fn grow(&mut self, chance: &mut Chance, kind: u8) -> Option<usize> {
+        let label = 1 + chance.below(LABELS) as u8;
+        Some(match kind {
+            6 | 20 => self.push(kind, 0, self.operand(chance, false)?, 0),
+            9 | 17 => self.push(kind, 0, self.operand(chance, true)?, 0),
+            7 | 8 => self.push(kind, 0, self.operand(chance, true)?, self.operand(chance, true)?),
+            21 | 22 => self.push(kind, 0, self.operand(chance, false)?, self.operand(chance, false)?),
+            16 => self.push(kind, label, 0, 0),
+            _ => self.push(kind, 0, 0, 0),
+        })
+    }
+
+    /// Tries so many more entries.
+    pub fn grown(mut self, chance: &mut Chance, tries: usize) -> Table {
+        for _ in 0..tries {
+            let kind = if chance.below(5) < 3 { chance.pick(&PATHS) } else { chance.pick(&FILTERS) };
+            self.grow(chance, kind);
+        }
+        self
+    }
+
+    /// The same with a path as its last entry; half of them start from every node.
+    pub fn ended(mut self, chance: &mut Chance) -> Table {
+        let mut last = self.len().wrapping_sub(1);
+        if !self.paths.contains(&last) {
+            last = if self.filters.contains(&last) { self.push(6, 0, last, 0) } else { self.push(2, 0, 0, 0) };
+        }
+        if chance.below(2) == 0 {
+            let child = self.push(2, 0, 0, 0);
+            let all = self.push(9, 0, child, 0);
+            self.push(7, 0, all, last);
+        }
+        self
+    }
+
+    /// A query of a few entries.
+    pub fn query(chance: &mut Chance) -> Table {
+        let tries = 1 + chance.below(16);
+        Table::within(30, 300).grown(chance, tries).ended(chance)
+    }
+}
+
+/// A byte changed, struck out or put in, or the end cut off.
+pub fn spoil(chance: &mut Chance, bytes: &mut Vec<u8>) {
+    if bytes.is_empty() {
+        return bytes.push(chance.below(3) as u8);
+    }
+    let at = chance.below(bytes.len());
+    let byte = [0, 1, 2, 7, 16, 17, 64, 65, 255, bytes[at] ^ 1][chance.below(10)];
+    match chance.below(8) {
+        0 => drop(bytes.remove(at)),
+        1 => bytes.insert(at, byte),
+        2 => bytes.truncate(at),
+        3 => bytes.truncate(at / 6 * 6),
+        _ => bytes[at] = byte,
+    }
+}

@@ -1,0 +1,212 @@
+//! Call 5: its bytes are free, so what the proved library writes is held to what it has to be: within the limits, the filter table in
+//! front, and from every visible node of a roll an answer that is the query's on the view.
+
+mod common;
+
+use std::collections::BTreeSet;
+
+use common::annotated::Annotated;
+use common::tables::{spoil, table_of, Table};
+use common::{cases, entry, from_hex, grown_roll, node, Chance, NO_PARENT, UNTOUCHED};
+use second::meaning::{Meaning, Nodes};
+use second::roll::{Node, Tree};
+use second::table::{heights, read_query, CURATORS_QUERY, ENTRY_BYTES, FILTER_TABLE, QUERY_ON_ROLL};
+use second::Reply;
+
+const ROOM: usize = 6144;
+
+/// The table written, or the refusal, which is the second program's too. Bytes behind the table, or all on refusal, stay as they were.
+fn rewritten(annotation: &[u8], filters: &[u8], query: &[u8], room: usize) -> Result<Vec<u8>, Reply> {
+    let mut ours = vec![UNTOUCHED; room];
+    let reply = compare::rewrite(annotation, filters, query, &mut ours);
+    let theirs = second::rewrite(annotation, filters, query, &mut vec![UNTOUCHED; room]);
+    let shown = || format!("{annotation:?}, {filters:?} and {query:?}");
+    let written = match (reply, theirs) {
+        (Reply::Count(entries), Reply::Count(_)) => ENTRY_BYTES * entries,
+        _ => {
+            assert_eq!(reply, theirs, "{}", shown());
+            0
+        }
+    };
+    assert!(ours[written..].iter().all(|byte| *byte == UNTOUCHED), "{}", shown());
+    ours.truncate(written);
+    if written == 0 {
+        return Err(reply);
+    }
+    assert_eq!(ours[..filters.len()], *filters, "{}", shown());
+    assert_eq!(compare::check_query(&ours), reply, "{}", shown());
+    Ok(ours)
+}
+
+/// The number of nodes that a query reaches on the view from all of its nodes; the rewritten one reaches the same from their records.
+fn reached(input: &Annotated, query: &[u8], rewritten: &[u8]) -> usize {
+    let (roll, view) = (Tree::read(&input.roll).expect("the roll is in order"), input.view());
+    let query = read_query(query, CURATORS_QUERY).expect("the query is in order");
+    let rewritten = read_query(rewritten, QUERY_ON_ROLL).expect("the rewritten query is in order");
+    let (mut on_view, mut on_roll) = (Meaning::new(&view.tree, &query), Meaning::new(&roll, &rewritten));
+    let record = |position: Node| view.records[usize::from(position)];
+    let mut reached = 0;
+    for position in view.tree.nodes() {
+        let expected: Nodes = on_view.answer_from(position).into_iter().map(record).collect();
+        assert_eq!(on_roll.answer_from(record(position)), expected, "from {position}: {query:?}");
+        reached += expected.len();
+    }
+    reached
+}
+
+#[test]
+fn the_worked_roll() {
+    let worked = Annotated::worked();
+    for text in
+        [".", "^", "v", "v/v", "v*/[#5]", "v/>", "v/v/>", "v/v/>/<", "v*/^", "v/[!v/[#4]]", "[f]", "[t]", "(v|v/v)*"]
+    {
+        let query = table_of(text);
+        for room in [ROOM, ROOM + 1, ROOM + 100] {
+            let table = rewritten(&worked.annotation, &worked.filters, &query, room).expect("it is not refused");
+            reached(&worked, &query, &table);
+        }
+        for room in [0, ROOM - 1] {
+            let refused = rewritten(&worked.annotation, &worked.filters, &query, room);
+            assert_eq!(refused, Err(Reply::Refused { number: 1, place: 0 }));
+        }
+    }
+}
+
+/// Annotation, filters and query of each line, with `A` or the refusal; the roll serves where it is in order.
+#[test]
+fn the_listed_draws() {
+    let mut compared = 0;
+    for case in cases(include_str!("../../second/tests/vectors/draws.txt")) {
+        let [roll, annotation, filters, query] = [0, 1, 2, 3].map(|word| from_hex(case[word]));
+        let listed = case.split(|word| *word == "|").nth(3).expect("it is the fourth part").join(" ");
+        match rewritten(&annotation, &filters, &query, ROOM) {
+            Err(refused) => assert_eq!(refused.to_string(), listed),
+            Ok(table) => {
+                assert_eq!(listed, "A");
+                if Tree::read(&roll).is_ok() {
+                    reached(&Annotated { roll, annotation, filters }, &query, &table);
+                    compared += 1;
+                }
+            }
+        }
+    }
+    assert!(compared > 150, "{compared}");
+}
+
+#[test]
+fn grown_queries_and_spoilt_ones() {
+    let mut chance = Chance(0x5eed_000a);
+    let mut refusals = BTreeSet::new();
+    let (mut nowhere, mut somewhere) = (0, 0);
+    for _ in 0..30_000 {
+        let mut input = Annotated::grown(&mut chance, 16);
+        let tries = 1 + chance.below(30);
+        // The second program walks an entry once from a node, so that the query may unfold to any number.
+        let mut query = Table::within(30, usize::MAX).grown(&mut chance, tries).ended(&mut chance).bytes;
+        let room = ROOM + chance.below(9);
+        let table = rewritten(&input.annotation, &input.filters, &query, room).expect("it is not refused");
+        match reached(&input, &query, &table) {
+            0 => nowhere += 1,
+            _ => somewhere += 1,
+        }
+        for _ in 0..4 {
+            input.spoil(&mut chance);
+            spoil(&mut chance, &mut query);
+            let room = chance.pick(&[0, ROOM - 1, ROOM, ROOM, ROOM, ROOM, ROOM + 1]);
+            if let Err(Reply::Refused { number, .. }) = rewritten(&input.annotation, &input.filters, &query, room) {
+                refusals.insert(number);
+            }
+        }
+    }
+    assert!(refusals.iter().eq(&[1, 6, 7, 8, 10, 11, 12]), "{refusals:?}");
+    assert!(nowhere > 500 && somewhere > 15_000, "{nowhere} led nowhere, {somewhere} somewhere");
+}
+
+/// All rolls of up to six nodes, with every choice of hidden ones: a step along each axis from every visible node.
+#[test]
+fn every_step_on_every_small_roll() {
+    let filters = [entry(18, 0, 0, 0), entry(19, 0, 0, 0)].concat();
+    let annotation = [entry(1, 1, 0, 0), entry(1, 2, 1, 0), entry(2, 1, 0, 0), entry(2, 2, 1, 0)].concat();
+    let steps = [2, 3, 4, 5].map(|kind| entry(kind, 0, 0, 0));
+    let tables = steps.map(|step| rewritten(&annotation, &filters, &step, ROOM).expect("it is not refused"));
+    let mut seen = [0; 4];
+    let mut shapes: Vec<Vec<usize>> = vec![vec![NO_PARENT]];
+    for nodes in 1..=6 {
+        for shape in &shapes {
+            for hidden in 0..1usize << (nodes - 1) {
+                let label = |at: usize| if at > 0 { 1 + (hidden >> (at - 1) & 1) as u8 } else { 1 };
+                let roll = shape.iter().enumerate().flat_map(|(at, parent)| node(label(at), *parent)).collect();
+                let input = Annotated { roll, annotation: annotation.clone(), filters: filters.clone() };
+                for at in 0..4 {
+                    seen[at] += reached(&input, &steps[at], &tables[at]);
+                }
+            }
+        }
+        shapes = shapes.iter().flat_map(|shape| longer(shape)).collect();
+    }
+    // Steps come in pairs that undo each other, and each leads somewhere.
+    assert!(seen[0] == seen[1] && seen[2] == seen[3] && seen[2] > 1000, "{seen:?}");
+}
+
+/// A shape with one node more, in all ways: below the last node or below one of its ancestors.
+fn longer(shape: &[usize]) -> Vec<Vec<usize>> {
+    let last = shape.len() - 1;
+    let parents = std::iter::successors(Some(last), |at| (shape[*at] != NO_PARENT).then_some(shape[*at]));
+    parents.map(|parent| [shape, &[parent]].concat()).collect()
+}
+
+/// A table of 256 entries, as high as it may be: in it a step along each axis, under filters that are nested and joined. Its last entry is
+/// of the kind given, and stands on the highest filter.
+fn fullest(height: usize, last_kind: u8) -> Vec<u8> {
+    let step = |kind: u8| entry(kind, 0, 0, 0);
+    let mut entries = vec![step(2), step(3), step(4), step(5)];
+    entries.extend([entry(7, 0, 0, 2), entry(8, 0, 1, 3), entry(7, 0, 4, 5), entry(17, 0, 6, 0)]);
+    let top = 7 + height - 5;
+    entries.extend((7..top).map(|below| entry(20, 0, below, 0)));
+    let pairs = (7..top)
+        .flat_map(|left| (7..top).flat_map(move |right| [entry(21, 0, left, right), entry(22, 0, left, right)]));
+    entries.extend(pairs.cycle().take(255 - entries.len()));
+    entries.push(entry(last_kind, 0, top, 0));
+    entries.concat()
+}
+
+fn highest(table: &[u8], limits: second::table::Limits) -> usize {
+    heights(&read_query(table, limits).expect("it is in order")).into_iter().max().expect("there are entries")
+}
+
+#[test]
+fn the_largest_inputs() {
+    let (filters, query) = (fullest(FILTER_TABLE.height, 20), fullest(CURATORS_QUERY.height, 6));
+    assert_eq!([filters.len(), query.len()], [256 * 6; 2]);
+    assert_eq!(highest(&query, CURATORS_QUERY), 32);
+    let as_query = [&filters[..255 * 6], &entry(6, 0, 254, 0)].concat();
+    assert!(second::table::read_filters(&filters).is_ok() && highest(&as_query, FILTER_TABLE) == 16);
+    // Labels 1 to 3 are the roll's; the pairs of the last records belong to no node of it.
+    let record = |at: usize| entry(1 + (at / 4) as u8, 1 + (at % 4) as u8, 255, 0);
+    let annotation: Vec<u8> = (0..32).flat_map(record).collect();
+    let table = rewritten(&annotation, &filters, &query, ROOM).expect("it is not refused");
+    assert_eq!([table.len() / 6, highest(&table, QUERY_ON_ROLL)], [859, 96], "entries and height");
+    let mut chance = Chance(0x5eed_000b);
+    for size in [1, 2, 10, 100] {
+        let roll = grown_roll(&mut chance, size, 3);
+        reached(&Annotated { roll, annotation: annotation.clone(), filters: filters.clone() }, &query, &table);
+    }
+    for (filters, query, number) in [
+        (&[&filters[..], &entry(18, 0, 0, 0)].concat(), &query, 7),
+        (&filters, &[&query[..], &entry(1, 0, 0, 0)].concat(), 12),
+    ] {
+        assert_eq!(rewritten(&annotation, filters, query, ROOM), Err(Reply::Refused { number, place: 0 }));
+    }
+}
+
+#[test]
+fn the_smallest_inputs() {
+    let input = Annotated { annotation: Vec::new(), filters: Vec::new(), ..Annotated::worked() };
+    for kind in [1, 2, 3, 4, 5] {
+        let query = entry(kind, 0, 0, 0);
+        let table = rewritten(&[], &[], &query, ROOM).expect("it is not refused");
+        assert_eq!(table.len() / 6, 60);
+        reached(&input, &query, &table);
+    }
+    assert_eq!(rewritten(&[], &[], &[], ROOM), Err(Reply::Refused { number: 12, place: 0 }));
+}
