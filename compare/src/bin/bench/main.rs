@@ -2,8 +2,12 @@
 //! nothing in others. Nothing is cleared between two runs of one input.
 
 mod answers;
+mod curators;
+mod hidden;
 mod rolls;
 mod stack;
+mod tools;
+mod views;
 
 use std::hint::black_box;
 use std::time::Instant;
@@ -152,12 +156,26 @@ fn checking_tables() {
     println!("the slowest of these: {slowest:.2} ns for each entry");
 }
 
+/// All parts, or those that are named.
 fn main() {
-    checking_rolls();
-    reading_texts();
-    checking_tables();
-    answers::answering();
-    answers::rewritten();
-    answers::shared();
-    stack::stack();
+    let parts: [(&str, fn()); 12] = [
+        ("rolls", checking_rolls),
+        ("texts", reading_texts),
+        ("tables", checking_tables),
+        ("answers", answers::answering),
+        ("shared", answers::shared),
+        ("views", views::cutting),
+        ("rewriting", views::rewriting),
+        ("curators", curators::answering),
+        ("court", curators::on_court),
+        ("runs", curators::over_hidden_runs),
+        ("stack", stack::stack),
+        ("curators-stack", stack::curators_stack),
+    ];
+    let named: Vec<String> = std::env::args().skip(1).collect();
+    for (name, part) in parts {
+        if named.is_empty() || named.iter().any(|wanted| wanted == name) {
+            part();
+        }
+    }
 }

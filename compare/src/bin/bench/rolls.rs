@@ -71,3 +71,10 @@ fn court(size: usize) -> Vec<u8> {
 pub fn shapes(size: usize, seed: u64) -> [(&'static str, Vec<u8>); 4] {
     [("one chain", chain(size)), ("one root", wide(size)), ("court", court(size)), ("random", random(size, seed))]
 }
+
+pub const SEED: u64 = 0x5eed;
+
+/// Eight rolls of 512 nodes, of the shape at a place in the list of shapes.
+pub fn small_rolls(shape: usize) -> Vec<Vec<u8>> {
+    (0..8).map(|roll| shapes(512, SEED + roll)[shape].1.clone()).collect()
+}

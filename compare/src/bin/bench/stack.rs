@@ -1,8 +1,11 @@
-//! How much stack call 3 takes on the highest tables that are accepted.
+//! How much stack calls 3 and 6 take on the highest tables that are accepted.
 
 use std::hint::black_box;
 
+use second::table::{read_query, CURATORS_QUERY};
 use second::Reply;
+
+use crate::hidden::Annotated;
 
 const PAINT: u8 = 0xC5;
 const DEEP: usize = 4 << 20;
@@ -28,15 +31,20 @@ fn taken(work: impl FnOnce() + Send) -> usize {
     })
 }
 
-/// Tables 128 high: entry 0 is a path, entry 1 a filter, and each of those above has the one before it as an operand.
-fn towers() -> [(&'static str, Vec<u8>); 9] {
-    let entry = |kind: u8, left: usize, right: usize| [kind, 0, left as u8, 0, right as u8, 0];
+fn entry(kind: u8, left: usize, right: usize) -> [u8; 6] {
+    [kind, 0, left as u8, 0, right as u8, 0]
+}
+
+/// Tables of one entry more than their height: entry 0 is a path, entry 1 a filter, and each of those above has the one before it as an
+/// operand. The last entry is a path.
+fn towers(path: [u8; 6], filter: [u8; 6], height: usize) -> [(&'static str, Vec<u8>); 9] {
     let tower = |next: &dyn Fn(usize) -> [u8; 6]| {
-        [entry(1, 0, 0), entry(18, 0, 0)].into_iter().chain((2..129).map(next)).flatten().collect()
+        [path, filter].into_iter().chain((2..height + 1).map(next)).flatten().collect()
     };
     let paths = |next: &dyn Fn(usize) -> [u8; 6]| tower(&|at| next(if at == 2 { 0 } else { at - 1 }));
-    let filters =
-        |next: &dyn Fn(usize) -> [u8; 6]| tower(&|at| if at == 128 { entry(6, 127, 0) } else { next(at - 1) });
+    let filters = |next: &dyn Fn(usize) -> [u8; 6]| {
+        tower(&|at| if at == height { entry(6, height - 1, 0) } else { next(at - 1) })
+    };
     [
         ("stars", paths(&|below| entry(9, below, 0))),
         ("left, then right: left", paths(&|below| entry(7, below, 0))),
@@ -54,9 +62,66 @@ pub fn stack() {
     println!("{:<38}{:>12}{:>8}", "stack, on tables 128 high", "bytes", "reply");
     let roll = [1, 0, 255, 255];
     let alone = ("one entry alone", vec![1, 0, 0, 0, 0, 0]);
-    for (name, table) in [alone].into_iter().chain(towers()) {
+    for (name, table) in [alone].into_iter().chain(towers(entry(1, 0, 0), entry(18, 0, 0), 128)) {
         let mut reply = Reply::Count(0);
         let bytes = taken(|| reply = compare::answer_on_roll(&roll, &table, &mut [0; 512]));
         println!("{name:<38}{bytes:>12}{:>8}", reply.to_string());
+    }
+}
+
+/// A root with three children, each with one of its own. The root's children have the pair of the last of 32 records, so that all records
+/// are gone through and the filter of the last one, which is 16 high, is asked.
+fn annotated(tower: Vec<u8>) -> Annotated {
+    let last = tower.len() / 6 - 1;
+    Annotated {
+        roll: [
+            [1, 0, 255, 255],
+            [32, 0, 0, 0],
+            [33, 0, 1, 0],
+            [32, 0, 0, 0],
+            [33, 0, 3, 0],
+            [32, 0, 0, 0],
+            [33, 0, 5, 0],
+        ]
+        .concat(),
+        annotation: (1..33).flat_map(|child| [1, child, last as u8, 0, 0, 0]).collect(),
+        filters: tower,
+    }
+}
+
+/// Filters 16 high, of each sort, that hold at the children.
+fn filters() -> Vec<Annotated> {
+    let towers = towers(entry(1, 0, 0), entry(18, 0, 0), 14).into_iter();
+    let ending = [entry(17, 14, 0), entry(22, 15, 1)].concat();
+    towers.map(|(_, tower)| annotated([tower, ending.clone()].concat())).collect()
+}
+
+/// Queries 32 high, of each sort, upon a step that is taken from the root's children.
+fn queries(step: u8) -> Vec<(&'static str, Vec<u8>)> {
+    let towers = towers(entry(step, 0, 0), entry(17, 0, 0), 30).into_iter();
+    // Those of paths have one more star, since they are not raised by the filter at the bottom.
+    let endings =
+        [[entry(2, 0, 0), entry(9, 30, 0), entry(7, 31, 32)], [entry(1, 0, 0), entry(2, 0, 0), entry(7, 32, 30)]];
+    let ended = |tower: Vec<u8>| endings.map(|ending| [tower.clone(), ending.concat()].concat());
+    let accepted = |table: &Vec<u8>| read_query(table, CURATORS_QUERY).is_ok();
+    towers.map(|(name, tower)| (name, ended(tower).into_iter().find(accepted).expect("one is accepted"))).collect()
+}
+
+/// What call 6 takes with a filter.
+fn curators(input: &Annotated, query: &[u8]) -> usize {
+    let Annotated { roll, annotation, filters } = input;
+    let answer = || compare::curators_answer(roll, annotation, filters, query, &mut [0; 512]);
+    taken(|| assert!(matches!(answer(), Reply::Count(_))))
+}
+
+/// For each axis the query that takes most, with the filter with which it does.
+pub fn curators_stack() {
+    println!("{:<38}{:>12}", "stack of call 6, on tables 32 high", "bytes");
+    let inputs = filters();
+    for (axis, step) in [("child", 2), ("parent", 3), ("next", 4), ("previous", 5)] {
+        let most = |query: &[u8]| inputs.iter().map(|input| curators(input, query)).max();
+        let taken = queries(step).into_iter().map(|(name, query)| (most(&query), name));
+        let (Some(bytes), name) = taken.max().expect("there are queries") else { panic!("there are filters") };
+        println!("{:<38}{bytes:>12}", format!("upon {axis}: {name}"));
     }
 }
