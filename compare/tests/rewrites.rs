@@ -10,7 +10,7 @@ use common::tables::{spoil, table_of, Table};
 use common::{cases, entry, from_hex, grown_roll, node, Chance, NO_PARENT, UNTOUCHED};
 use second::meaning::{Meaning, Nodes};
 use second::roll::{Node, Tree};
-use second::table::{heights, read_query, CURATORS_QUERY, ENTRY_BYTES, FILTER_TABLE, QUERY_ON_ROLL};
+use second::table::{heights, read_filters, read_query, CURATORS_QUERY, ENTRY_BYTES, FILTER_TABLE, QUERY_ON_ROLL};
 use second::Reply;
 
 const ROOM: usize = 6144;
@@ -155,41 +155,39 @@ fn longer(shape: &[usize]) -> Vec<Vec<usize>> {
     parents.map(|parent| [shape, &[parent]].concat()).collect()
 }
 
-/// A table of 256 entries, as high as it may be: in it a step along each axis, under filters that are nested and joined. Its last entry is
-/// of the kind given, and stands on the highest filter.
+/// A table of 256 entries, as high as it may be: whether `v/>/(^|<)/[#1]` leads somewhere, under filters that are nested and joined. Its
+/// last entry is of the kind given, and stands on the highest filter.
 fn fullest(height: usize, last_kind: u8) -> Vec<u8> {
     let step = |kind: u8| entry(kind, 0, 0, 0);
-    let mut entries = vec![step(2), step(3), step(4), step(5)];
-    entries.extend([entry(7, 0, 0, 2), entry(8, 0, 1, 3), entry(7, 0, 4, 5), entry(17, 0, 6, 0)]);
-    let top = 7 + height - 5;
-    entries.extend((7..top).map(|below| entry(20, 0, below, 0)));
-    let pairs = (7..top)
-        .flat_map(|left| (7..top).flat_map(move |right| [entry(21, 0, left, right), entry(22, 0, left, right)]));
-    entries.extend(pairs.cycle().take(255 - entries.len()));
+    let mut entries = vec![step(2), step(3), step(4), step(5), entry(16, 1, 0, 0), entry(6, 0, 4, 0)];
+    entries.extend([entry(7, 0, 0, 2), entry(8, 0, 1, 3), entry(7, 0, 6, 7), entry(7, 0, 8, 5), entry(17, 0, 9, 0)]);
+    let (leads, top) = (10, height + 4);
+    entries.extend((leads..top).map(|below| entry(20, 0, below, 0)));
+    let pairs = (leads..top).flat_map(|left| (leads..top).map(move |right| (left, right)));
+    let joints = pairs.flat_map(|(left, right)| [entry(21, 0, left, right), entry(22, 0, left, right)]);
+    entries.extend(joints.cycle().take(255 - entries.len()));
     entries.push(entry(last_kind, 0, top, 0));
     entries.concat()
-}
-
-fn highest(table: &[u8], limits: second::table::Limits) -> usize {
-    heights(&read_query(table, limits).expect("it is in order")).into_iter().max().expect("there are entries")
 }
 
 #[test]
 fn the_largest_inputs() {
     let (filters, query) = (fullest(FILTER_TABLE.height, 20), fullest(CURATORS_QUERY.height, 6));
     assert_eq!([filters.len(), query.len()], [256 * 6; 2]);
-    assert_eq!(highest(&query, CURATORS_QUERY), 32);
-    let as_query = [&filters[..255 * 6], &entry(6, 0, 254, 0)].concat();
-    assert!(second::table::read_filters(&filters).is_ok() && highest(&as_query, FILTER_TABLE) == 16);
+    assert_eq!(heights(&read_filters(&filters).expect("it is in order"))[255], 16);
+    assert_eq!(heights(&read_query(&query, CURATORS_QUERY).expect("it is in order"))[255], 32);
     // Labels 1 to 3 are the roll's; the pairs of the last records belong to no node of it.
     let record = |at: usize| entry(1 + (at / 4) as u8, 1 + (at % 4) as u8, 255, 0);
     let annotation: Vec<u8> = (0..32).flat_map(record).collect();
     let table = rewritten(&annotation, &filters, &query, ROOM).expect("it is not refused");
-    assert_eq!([table.len() / 6, highest(&table, QUERY_ON_ROLL)], [859, 96], "entries and height");
+    let height = heights(&read_query(&table, QUERY_ON_ROLL).expect("it is in order")).into_iter().max();
+    assert_eq!((table.len() / 6, height), (859, Some(96)));
     let mut chance = Chance(0x5eed_000b);
-    for size in [1, 2, 10, 100] {
+    for size in [1, 2, 10, 100, 1000] {
         let roll = grown_roll(&mut chance, size, 3);
-        reached(&Annotated { roll, annotation: annotation.clone(), filters: filters.clone() }, &query, &table);
+        let input = Annotated { roll, annotation: annotation.clone(), filters: filters.clone() };
+        let (shown, reached) = (input.view().tree.len(), reached(&input, &query, &table));
+        assert!(size < 100 || (1 < reached && reached < shown && shown < size), "{reached} of {shown} of {size}");
     }
     for (filters, query, number) in [
         (&[&filters[..], &entry(18, 0, 0, 0)].concat(), &query, 7),
