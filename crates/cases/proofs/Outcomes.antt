@@ -16,7 +16,8 @@ use Rattle.query.specs.Fault.{curators, Query}
 use Rattle.text.specs.Written.{tableOf}
 use Rattle.text.specs.Promise.{TextOf, TextFault, TextRead}
 use Rattle.reading.proofs.Back.{table-back, query-back}
-use Rattle.reading.proofs.Accepted.{bytes-length, text-query}
+use Rattle.query.proofs.Bytes.{bytes-length}
+use Rattle.reading.proofs.Accepted.{text-query}
 use Rattle.reading.proofs.Unique.{text-read-one}
 use Rattle.answer.specs.Bitmap.{Bitmap, SetGiven}
 use Rattle.sets.specs.Bits.{ones}
