@@ -1,0 +1,97 @@
+-- `put_decimal` meets its contract: by its own call the digits of the number's tenth are written, and one more stands behind them. The
+-- measure is the number. Assumes nothing.
+use Prim.Native.Nat.{ℕ, _+_, _/_, _%_, _≤_, _<_}
+use native.Mathlib.Omega.{arith}
+use mathlib.Core.Path.{_≡_, _∙_}
+use lib.ListN.{length}
+use borrow.Author.Needs.{needs}
+use borrow.Fn.Kinds.{In}
+use borrow.Fn.PlainCycle.{Measures, is, falls, and}
+use Rattle.lines.specs.Line.{decimal}
+use Rattle.lines.proofs.Putting.{put-length, put-then}
+use Rattle.lines.proofs.Numbers.{decimal-small, decimal-large, one-digit, one-digit-more}
+use Rattle.lines.proofs.number.put_decimal.Reads as reads
+use Rattle.lines.proofs.number.put_decimal.Kinds as kinds
+use Rattle.lines.proofs.number.+put_decimal.Lts-put_decimal as lts
+use Rattle.lines.proofs.number.put_byte.Reads as put-byte
+use Rattle.lines.proofs.number.+put_decimal.{statement}
+use Rattle.lines.proofs.number.+put_decimal.Tie.{close}
+
+abbrev μ : Measures 1 kinds.ps ℕ
+μ κs a = a .1 .1 .0
+
+-- what it is given at the measure t, and what its callees ask and say: its own call asks the same below t
+abbrev own : ℕ → In 1 kinds.ps
+own t = and 1 kinds.ps (is 1 kinds.ps μ t) reads.Pre
+
+abbrev claims : ℕ → lts.Claims
+claims t = (put-byte.Asked, put-byte.Learnt, and 1 kinds.ps (falls 1 kinds.ps _<_ μ t) reads.Pre, reads.Post)
+
+module _ (t : ℕ) where
+  cast-put-byte : lts.Need-cast-put-byte (claims t) (own t) reads.Post
+  cast-put-byte c = omega arith
+
+  add-put-byte : lts.Need-add-put-byte (claims t) (own t) reads.Post
+  add-put-byte c = omega arith
+
+  put-byte-requires : lts.Need-put-byte-requires (claims t) (own t) reads.Post
+  put-byte-requires c κs =
+      let start = c .before .before .before in
+      let room = start .pre .1 in
+      omega (arith, one-digit (start .args .n) (c .before .if1 .taken))
+
+  same-length : lts.Need-same-length (claims t) (own t) reads.Post
+  same-length c = search needs
+
+  returns : lts.Need-returns (claims t) (own t) reads.Post
+  returns c =
+      let call = c .before .before in
+      let start = call .before .before .before .before in
+      rw (decimal-small (start .args .n) (call .before .before .if1 .taken)) (call .put-byte .ensures)
+
+  put-decimal-requires : lts.Need-put-decimal-requires (claims t) (own t) reads.Post
+  put-decimal-requires c κs =
+      let start = c .before .before .before in
+      let large = c .before .if1 .left in
+      let measure = start .pre .0 in
+      let room = start .pre .1 in
+      (omega arith, omega (arith, one-digit-more (start .args .n) large))
+
+  cast-put-byte-2 : lts.Need-cast-put-byte-2 (claims t) (own t) reads.Post
+  cast-put-byte-2 c = omega arith
+
+  add-put-byte-2 : lts.Need-add-put-byte-2 (claims t) (own t) reads.Post
+  add-put-byte-2 c = omega arith
+
+  put-byte-requires-2 : lts.Need-put-byte-requires-2 (claims t) (own t) reads.Post
+  put-byte-requires-2 c κs =
+      let first = c .before .before .before in
+      let start = first .before .before .before .before in
+      let room = start .pre .1 in
+      let end = first .put-decimal .ensures .end in
+      omega (arith, first .put-decimal .kept .0, one-digit-more (start .args .n) (first .before .before .if1 .left))
+
+  same-length-2 : lts.Need-same-length-2 (claims t) (own t) reads.Post
+  same-length-2 c = search needs
+
+  returns-2 : lts.Need-returns-2 (claims t) (own t) reads.Post
+  returns-2 c =
+      let last = c .before .before in
+      let first = last .before .before .before .before in
+      let start = first .before .before .before .before in
+      let large = first .before .before .if1 .left in
+      rw (decimal-large (start .args .n) large) (put-then (omega (arith, first .put-decimal .ensures .end, start .pre .1, one-digit-more (start .args .n) large)) (first .put-decimal .ensures) (last .put-byte2 .ensures))
+
+pub +put-decimal-spec : {M : Type 1} → statement M
++put-decimal-spec = close μ λ t. lts.spec (claims t) (own t) reads.Post
+    (cast-put-byte t)
+    (add-put-byte t)
+    (put-byte-requires t)
+    (same-length t)
+    (returns t)
+    (put-decimal-requires t)
+    (cast-put-byte-2 t)
+    (add-put-byte-2 t)
+    (put-byte-requires-2 t)
+    (same-length-2 t)
+    (returns-2 t)
