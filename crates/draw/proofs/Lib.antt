@@ -1,0 +1,5 @@
+pub mod Answering
+pub mod Finding
+pub mod Drawing
+pub mod Keeping
+pub mod Reading
