@@ -45,7 +45,7 @@ loop-again : tie.Need-loop-again Inv-loop μ-loop
 loop-again c =
     let head = c .before .before .before in
     let start = head .before in
-    one-moved (start .pre .0) (start .pre .1) (head .loop .inv) (c .before .before .loop-test .taken) (c .before .if1 .left)
+    one-moved (start .pre .0) (start .pre .1) (head .loop .inv) (omega (arith, c .before .before .loop-test .taken)) (c .before .if1 .left)
 
 same-length : tie.Need-same-length Inv-loop μ-loop
 same-length c = moved-length (c .before .before .pre .0) (c .before .before .pre .1) (c .before .loop .inv)
