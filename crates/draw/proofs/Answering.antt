@@ -18,6 +18,7 @@ use Rattle.query.specs.Table.{entryBytes}
 use Rattle.text.specs.Written.{tableOf}
 use Rattle.text.specs.Promise.{TextOf, TextFault, TextRead}
 use Rattle.query.proofs.Bytes.{bytes-length}
+use Rattle.curator.specs.Promise.{CuratorAnswered}
 use Rattle.lines.specs.Line.{lineOf, LineGiven}
 use Rattle.draw.specs.Drawn.{LineFor, text-refused, answered}
 use Rattle.draw.specs.Inner.{LineWritten}
@@ -60,21 +61,23 @@ module _ {text : Bytes} where
   text-fault after (short less) = absurd (omega arith)
   text-fault after (turned-away _ fault) = fault
 
-  module _ {Answers : Bytes → Bytes → Said → Bytes → Type 0} {map out last : Bytes} {c : ℕ} where
+  module _ {roll annotation filters map out last : Bytes} {c : ℕ} where
     -- its line is that of the refusal
     pub refused-line : (r : Reply) (after : Bytes) → OneOf (1 ∷ []) (tagOf the-reply.the-type r) → TextRead text room (said r) after
-        → LineGiven (said r) map out c last → LineWritten (LineFor Answers text) out c last
+        → LineGiven (said r) map out c last → LineWritten (LineFor roll annotation filters text) out c last
     unfolding lineOf
     refused-line (Count n) after no-such x given = absurd (omega arith)
     refused-line (Refused x) after u read given =
         record { line = _; right = text-refused (text-fault after read); count = given .count; written = given .written }
 
     -- the line of any other text is that of the answer to its table
-    pub answered-line : {s : Said} {n : ℕ} {table : Bytes} → TableRead text n table → Answers (take (6 * n) table) (replicate 512 0) s map
-        → LineGiven s map out c last → LineWritten (LineFor Answers text) out c last
+    pub answered-line : {s : Said} {n : ℕ} {table : Bytes} → TableRead text n table
+        → CuratorAnswered roll annotation filters (take (6 * n) table) (replicate 512 0) s map
+        → LineGiven s map out c last → LineWritten (LineFor roll annotation filters text) out c last
     answered-line {s} t x given = record {
       line = lineOf s map;
-      right = answered (t .text-of) (subst (λ (b : Bytes). Answers b (replicate 512 0) s map) (t .front) x);
+      right = answered s map (t .text-of)
+          (subst (λ (b : Bytes). CuratorAnswered roll annotation filters b (replicate 512 0) s map) (t .front) x);
       count = given .count;
       written = given .written;
     }

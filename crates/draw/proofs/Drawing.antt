@@ -11,7 +11,7 @@ use Rattle.bytes.specs.Bytes.{indexOf, slice}
 use Rattle.reply.specs.Bytes.{Bytes}
 use Rattle.lines.specs.Line.{longest}
 use Rattle.draw.specs.Drawn.{Drawn, none, one-more}
-use Rattle.draw.specs.Inner.{LineWritten, Answered}
+use Rattle.draw.specs.Inner.{LineWritten, LinesAnswered}
 use Rattle.draw.proofs.Finding.{none-before, none-at-all, up-to}
 
 -- so far: `read` bytes are answered, `written` bytes are written, and there are as many bytes for the output as before
@@ -32,7 +32,8 @@ module _ {Line : Bytes → Bytes → Type 0} where
     next-feed e = e ∙ ap (λ (b : Bytes). read + indexOf 10 (drop read b)) (take-length input)
 
     -- the search finds none
-    pub no-line : {end : ℕ} → end ≡ read + indexOf 10 (slice read (length input) input) → end ≡ length input → Answered Line input read written output
+    pub no-line : {end : ℕ} → end ≡ read + indexOf 10 (slice read (length input) input) → end ≡ length input
+        → LinesAnswered Line input read written output
     no-line e past = record {
       within = g .within;
       fits = g .fits;
@@ -41,11 +42,12 @@ module _ {Line : Bytes → Bytes → Type 0} where
     }
 
     -- there is no more room
-    pub no-room : length output - written < longest → Answered Line input read written output
+    pub no-room : length output - written < longest → LinesAnswered Line input read written output
     no-room l = record { within = g .within; fits = g .fits; drawn = g .drawn; ends = inr (omega (arith, g .fits)) }
 
     -- a line is answered, in the part of the output that is left
-    pub one-line : {end c : ℕ} {part : Bytes} → end ≡ read + indexOf 10 (slice read (length input) input) → end ≤ length input → ¬ (end ≡ length input)
+    pub one-line : {end c : ℕ} {part : Bytes} → end ≡ read + indexOf 10 (slice read (length input) input) → end ≤ length input
+        → ¬ (end ≡ length input)
         → LineWritten (Line (take (end - read) (drop read input))) (midOf written (length output - written) output) c part
         → Going Line input before (end + 1) (written + c) (putMid written (length output - written) output part)
     one-line {end} {c} {part} e within some w = record {
@@ -53,7 +55,8 @@ module _ {Line : Bytes → Bytes → Type 0} where
       fits = omega (arith, same, w .written .room, w .count, mid-len written (length output) output (omega arith), g .fits);
       long = same ∙ g .long;
       drawn = subst (λ (b : Bytes). Drawn Line b (take (written + c) after)) (sym up-to-end)
-          (subst (λ (b : Bytes). Drawn Line (take read input ++ text ++ 10 ∷ []) b) (sym up-to-line) (one-more (g .drawn) no-feed (w .right)));
+          (subst (λ (b : Bytes). Drawn Line (take read input ++ text ++ 10 ∷ []) b) (sym up-to-line)
+          (one-more (g .drawn) no-feed (w .right)));
     }
       where
         left : ℕ
@@ -103,7 +106,8 @@ module _ {Line : Bytes → Bytes → Type 0} where
             let front = length-take-le written output (g .fits) in
             ap (λ (n : ℕ). take (n + c) after) (sym front) ∙ take-append-add (take written output) (part ++ post) c
             ∙ ap (λ (b : Bytes). take written output ++ b)
-            (take-append-le c part post (omega (arith, whole, w .count)) ∙ ap (take c) (w .written .bytes) ∙ take-at line rest c (sym (w .count)))
+            (take-append-le c part post (omega (arith, whole, w .count)) ∙ ap (take c) (w .written .bytes)
+            ∙ take-at line rest c (sym (w .count)))
 
   -- ---- where nothing is answered, no line ends
 
@@ -113,8 +117,8 @@ module _ {Line : Bytes → Bytes → Type 0} where
   nothing-written b (one-more {read} {text = text} d no-feed right) e =
       absurd (omega (arith, ap length e, length-append (read ++ text) (10 ∷ [])))
 
-  pub no-line-ends : {input output : Bytes} {read written : ℕ} → Answered Line input read written output → read ≡ 0 → longest ≤ length output
-      → ¬ List·Memᴰ 10 input
+  pub no-line-ends : {input output : Bytes} {read written : ℕ} → LinesAnswered Line input read written output → read ≡ 0
+      → longest ≤ length output → ¬ List·Memᴰ 10 input
   no-line-ends {input} {output} {read} {written} a e room =
       ⊎-elim (subst (λ (n : ℕ). ¬ List·Memᴰ 10 (drop n input)) e) (λ full. absurd (omega (arith, zero-written))) (a .ends)
     where
@@ -125,7 +129,8 @@ module _ {Line : Bytes → Bytes → Type 0} where
       zero-written = sym (length-take-le written output (a .fits)) ∙ ap length empty
 
   -- the same of a part that goes to the end of the input
-  pub none-behind : (input : Bytes) (at : ℕ) {output : Bytes} {read written : ℕ} → Answered Line (take (length input - at) (drop at input)) read written output
+  pub none-behind : (input : Bytes) (at : ℕ) {output : Bytes} {read written : ℕ}
+      → LinesAnswered Line (take (length input - at) (drop at input)) read written output
       → read ≡ 0 → longest ≤ length output → ¬ List·Memᴰ 10 (drop at input)
   none-behind input at a e room =
       subst (λ (b : Bytes). ¬ List·Memᴰ 10 b) (take-all (length input - at) (drop at input) (omega (arith, length-drop at input)))

@@ -18,7 +18,8 @@ module _ (b : ℕ) where
   found [] l = absurd (omega arith)
   found (x ∷ rest) l = by (eqb x b) refl l (found rest)
     where
-      by : (t : Bool) → eqb x b ≡ t → indexAfter t (indexOf b rest) < length (x ∷ rest) → (indexOf b rest < length rest → getD rest (indexOf b rest) 0 ≡ b)
+      by : (t : Bool) → eqb x b ≡ t → indexAfter t (indexOf b rest) < length (x ∷ rest)
+          → (indexOf b rest < length rest → getD rest (indexOf b rest) 0 ≡ b)
           → getD (x ∷ rest) (indexAfter t (indexOf b rest)) 0 ≡ b
       by true e l deeper = eqb-true x b e
       by false e l deeper = deeper (omega arith)
@@ -29,7 +30,8 @@ module _ (b : ℕ) where
   none-before [] = List·Memᴰ·not-nil
   none-before (x ∷ rest) = by (eqb x b) refl (none-before rest)
     where
-      by : (t : Bool) → eqb x b ≡ t → ¬ List·Memᴰ b (take (indexOf b rest) rest) → ¬ List·Memᴰ b (take (indexAfter t (indexOf b rest)) (x ∷ rest))
+      by : (t : Bool) → eqb x b ≡ t → ¬ List·Memᴰ b (take (indexOf b rest) rest)
+          → ¬ List·Memᴰ b (take (indexAfter t (indexOf b rest)) (x ∷ rest))
       by true e deeper = List·Memᴰ·not-nil
       by false e deeper = λ m. ⊎-elim (λ same. eqb-false x b e (sym same)) deeper (List·Memᴰ·cases-cons m)
 

@@ -44,7 +44,8 @@ module _ {before : Bytes} {from to : ℕ} (starts : from ≤ to) (ends : to ≤ 
       where
         all : set buffer kept (getD buffer (from + kept) 0) ≡ paste before 0 (drop from before) (kept + 1)
         all =
-            ap (set buffer kept) next ∙ ap₂ (λ (b : Bytes) (n : ℕ). set b n (getD (drop from before) kept 0)) (m .bytes) (sym (zero-add kept))
+            ap (set buffer kept) next
+            ∙ ap₂ (λ (b : Bytes) (n : ℕ). set b n (getD (drop from before) kept 0)) (m .bytes) (sym (zero-add kept))
             ∙ paste-suc before 0 (drop from before) kept 0 (omega arith) (omega (arith, length-drop from before))
             ∙ ap (paste before 0 (drop from before)) (sym (add-one kept))
 

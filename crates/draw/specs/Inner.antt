@@ -25,7 +25,7 @@ pub record LineWritten (Line : Bytes → Type 0) (before : Bytes) (c : ℕ) (aft
 
 -- The first `read` bytes of the input are whole lines, and the first `written` bytes of the output are what is written for them. It goes on
 -- while there is a whole line, and room for any line.
-pub record Answered (Line : Bytes → Bytes → Type 0) (input : Bytes) (read written : ℕ) (output : Bytes) : Type 0 where
+pub record LinesAnswered (Line : Bytes → Bytes → Type 0) (input : Bytes) (read written : ℕ) (output : Bytes) : Type 0 where
   pub within : read ≤ length input
   pub fits : written ≤ length output
   pub drawn : Drawn Line (take read input) (take written output)

@@ -7,15 +7,16 @@ use reader::read_text;
 use reply::Reply;
 ghost use Prim.Native.Nat.{_≤_};
 ghost use lib.ListN.{length};
-ghost use Rattle.curator.specs.Promise.{CuratorAnswered};
 ghost use Rattle.lines.specs.Line.{longest};
 ghost use Rattle.draw.specs.Drawn.{LineFor};
-ghost use Rattle.draw.specs.Inner.{LineWritten, Answered};
+ghost use Rattle.draw.specs.Inner.{LineWritten, LinesAnswered};
 
 // The line for one query text, in front of `out`. Gives its length.
 fn answer_line(roll: &[u8], view: &[u8], filters: &[u8], text: &[u8], out: &mut [u8]) -> usize
     requires { ⌜ longest ≤ length (now out) ⌝ }
-    ensures { λ r. ⌜ LineWritten (LineFor (CuratorAnswered (now (roll .entry)) (now (view .entry)) (now (filters .entry))) (now (text .entry))) (now (out .entry)) r (now (out .exit)) ⌝ }
+    ensures { λ r. ⌜ LineWritten
+        (LineFor (now (roll .entry)) (now (view .entry)) (now (filters .entry)) (now (text .entry)))
+        (now (out .entry)) r (now (out .exit)) ⌝ }
 {
     let mut table = [0u8; 1536];
     let mut map = [0u8; 512];
@@ -42,7 +43,9 @@ pub fn answer_lines(
     input: &[u8],
     out: &mut [u8],
 ) -> Progress
-    ensures { λ r. ⌜ Answered (LineFor (CuratorAnswered (now (roll .entry)) (now (view .entry)) (now (filters .entry)))) (now (input .entry)) (r .read) (r .written) (now (out .exit)) ⌝ }
+    ensures { λ r. ⌜ LinesAnswered
+        (LineFor (now (roll .entry)) (now (view .entry)) (now (filters .entry)))
+        (now (input .entry)) (r .read) (r .written) (now (out .exit)) ⌝ }
 {
     let mut read = 0;
     let mut written = 0;

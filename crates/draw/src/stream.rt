@@ -4,6 +4,7 @@ use crate::file::read_more;
 use crate::line::answer_lines;
 use libc::STDIN_FILENO;
 use libc::STDOUT_FILENO;
+use lines::LONGEST;
 use lines::write_line;
 use reply::Reason;
 use reply::refuse;
@@ -15,7 +16,7 @@ ghost use Rattle.draw.specs.Inner.{AllSent, Kept, KeptFew};
 // What one read gives; and what is written at once: 65,536 bytes and the longest line behind them.
 const INPUT: usize = 65536;
 
-const OUTPUT: usize = 65536 + 20503;
+const OUTPUT: usize = 65536 + LONGEST;
 
 // A text has at most 1,024 bytes: a line with one byte more is refused, whatever follows.
 const TOO_LONG: usize = 1025;

@@ -27,7 +27,9 @@ spaced-one n = ap (λ (b : Bytes). 32 ∷ b) (append-nil (decimal n))
 pub spaced-append : (ms ns : List ℕ) → spaced (ms ++ ns) ≡ spaced ms ++ spaced ns
 unfolding spaced
 spaced-append [] ns = refl
-spaced-append (m ∷ ms) ns = ap (λ (b : Bytes). 32 ∷ decimal m ++ b) (spaced-append ms ns) ∙ ap (λ (b : Bytes). 32 ∷ b) (sym (append-assoc (decimal m) (spaced ms) (spaced ns)))
+spaced-append (m ∷ ms) ns =
+    ap (λ (b : Bytes). 32 ∷ decimal m ++ b) (spaced-append ms ns)
+    ∙ ap (λ (b : Bytes). 32 ∷ b) (sym (append-assoc (decimal m) (spaced ms) (spaced ns)))
 
 -- how long one is
 pub spaced-length : (n : ℕ) → length (spaced (n ∷ [])) ≡ 1 + length (decimal n)
@@ -49,7 +51,8 @@ pub put-chosen : (map : Bytes) (k : ℕ) {b after : Bytes} {at to : ℕ} {is : B
     → Put b at (spaced (k ∷ [])) to after → Put b at (spaced (chosen map k)) to after
 put-chosen map k e t p = rw (sym e ∙ t) p
 
-pub put-unchosen : (map : Bytes) (k : ℕ) {b : Bytes} {at : ℕ} {is : Bool} → is ≡ eqb (bit map k) 1 → is ≡ false → Put b at (spaced (chosen map k)) at b
+pub put-unchosen : (map : Bytes) (k : ℕ) {b : Bytes} {at : ℕ} {is : Bool} → is ≡ eqb (bit map k) 1 → is ≡ false
+    → Put b at (spaced (chosen map k)) at b
 unfolding spaced
 put-unchosen map k {b} {at} e t = rw (sym e ∙ t) (put-none b at)
 
@@ -76,7 +79,8 @@ spaced-positions map (suc k) l =
 -- a letter, numbers, more numbers and the line feed, one behind the other
 pub framed : {letter : ℕ} (ms ns : List ℕ) {b lettered first both after : Bytes} {to middle behind end : ℕ}
     → length (spaced ms) + length (spaced ns) + 2 ≤ length b → Put b 0 (letter ∷ []) to lettered → Put lettered to (spaced ms) middle first
-    → Put first middle (spaced ns) behind both → Put both behind (10 ∷ []) end after → Put b 0 (letter ∷ spaced (ms ++ ns) ++ 10 ∷ []) end after
+    → Put first middle (spaced ns) behind both → Put both behind (10 ∷ []) end after
+    → Put b 0 (letter ∷ spaced (ms ++ ns) ++ 10 ∷ []) end after
 framed ms ns room w x y z =
     rw (spaced-append ms ns)
     (put-then (omega (arith, w .end, x .end, y .end)) (put-then (omega (arith, w .end, x .end)) (put-then (omega (arith, w .end)) w x) y) z)
@@ -86,8 +90,8 @@ given : {s : Said} {map b after : Bytes} {to : ℕ} → Put b 0 (lineOf s map) t
 given p kept = record { count = p .end ∙ omega arith; written = put-written (put-fits p kept) p }
 
 -- of a reply that counts, and of one that refuses
-pub counted-line : {r : Reply} {n : ℕ} {map b after : Bytes} {to : ℕ} → r ≡ Count n → Put b 0 (lineOf (count n) map) to after → length after ≡ length b
-    → LineGiven (said r) map b to after
+pub counted-line : {r : Reply} {n : ℕ} {map b after : Bytes} {to : ℕ} → r ≡ Count n
+    → Put b 0 (lineOf (count n) map) to after → length after ≡ length b → LineGiven (said r) map b to after
 counted-line e p kept = rw e (given p kept)
 
 pub refused-line : {r : Reply} {x : Refusal} {n : ℕ} {map b after : Bytes} {to : ℕ} → r ≡ Refused x → n ≡ number (x .reason)
@@ -116,8 +120,9 @@ pub listed-length : {map before after : Bytes} {at to left : ℕ} → at + 5 * 4
 listed-length room x = put-length (omega (arith, listed-end x)) (x .put)
 
 -- a turn: position 4096 - left
-pub list-one : {map before middle after : Bytes} {at to end left : ℕ} → at + 5 * 4096 ≤ length before → 0 < left → Listed map before at to left middle
-    → Put middle to (spaced (chosen map (4096 - left))) end after → Listed map before at end (left - 1) after
+pub list-one : {map before middle after : Bytes} {at to end left : ℕ} → at + 5 * 4096 ≤ length before → 0 < left
+    → Listed map before at to left middle → Put middle to (spaced (chosen map (4096 - left))) end after
+    → Listed map before at end (left - 1) after
 list-one {map} {before} {after = after} {at} {end = end} {left} room some x p = record { few = omega (arith, x .few); put = all }
   where
     next : 4096 - (left - 1) ≡ suc (4096 - left)

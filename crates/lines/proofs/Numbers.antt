@@ -30,7 +30,9 @@ decimal-small n small = rw (lt-ltb n 10 small) (ap (λ (d : ℕ). (48 + d) ∷ [
 -- any other is the digits of its tenth, and one more
 pub decimal-large : (n : ℕ) → 10 ≤ n → decimal n ≡ decimal (n / 10) ++ (48 + n % 10) ∷ []
 unfolding decimal digits
-decimal-large n large = rw (le-ltb n 10 large) (ap (λ (b : Bytes). b ++ (48 + n % 10) ∷ []) (enough n (suc (n / 10)) (n / 10) (omega arith) (omega arith)))
+decimal-large n large =
+    rw (le-ltb n 10 large)
+    (ap (λ (b : Bytes). b ++ (48 + n % 10) ∷ []) (enough n (suc (n / 10)) (n / 10) (omega arith) (omega arith)))
 
 -- how many digits that are
 pub one-digit : (n : ℕ) → n < 10 → length (decimal n) ≡ 1

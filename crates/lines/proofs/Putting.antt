@@ -20,7 +20,9 @@ put-one b at x l = record { end = refl; bytes = rw (add-one at) (set-split b at 
 
 -- what is written at the front
 pub put-written : {b s after : Bytes} {to : ℕ} → to ≤ length b → Put b 0 s to after → Written b s after
-put-written {b} {s} {to = to} fits p = let e : to ≡ length s = omega (arith, p .end) in record { room = omega arith; bytes = p .bytes ∙ ap (λ (n : ℕ). s ++ drop n b) e }
+put-written {b} {s} {to = to} fits p =
+    let e : to ≡ length s = omega (arith, p .end) in
+    record { room = omega arith; bytes = p .bytes ∙ ap (λ (n : ℕ). s ++ drop n b) e }
 
 -- what is written in front of bytes that are as many as before fits
 pub put-fits : {b s after : Bytes} {to : ℕ} → Put b 0 s to after → length after ≡ length b → to ≤ length b
@@ -39,7 +41,8 @@ module _ {b s after : Bytes} {at to : ℕ} (fits : to ≤ length b) (p : Put b a
   pub put-then : {t last : Bytes} {end : ℕ} → Put after to t end last → Put b at (s ++ t) end last
   put-then {t} {last} {end} q = record {
     end = omega (arith, p .end, q .end, length-append s t);
-    bytes = q .bytes ∙ ap₂ (λ (x y : Bytes). x ++ t ++ y) before behind ∙ ap (λ (x : Bytes). x ++ drop end b) (append-assoc (take at b) s t);
+    bytes = q .bytes ∙ ap₂ (λ (x y : Bytes). x ++ t ++ y) before behind
+        ∙ ap (λ (x : Bytes). x ++ drop end b) (append-assoc (take at b) s t);
   }
     where
       before : take to after ≡ take at b ++ s
@@ -48,4 +51,5 @@ module _ {b s after : Bytes} {at to : ℕ} (fits : to ≤ length b) (p : Put b a
       behind : drop end after ≡ drop end b
       behind =
           let e : end ≡ length (take at b ++ s) + length t = q .end ∙ ap (λ (n : ℕ). n + length t) (sym front) in
-          ap₂ drop e (p .bytes) ∙ drop-append-add (take at b ++ s) (drop to b) (length t) ∙ drop-drop (length t) to b ∙ ap (λ (n : ℕ). drop n b) (sym (q .end))
+          ap₂ drop e (p .bytes) ∙ drop-append-add (take at b ++ s) (drop to b) (length t)
+          ∙ drop-drop (length t) to b ∙ ap (λ (n : ℕ). drop n b) (sym (q .end))

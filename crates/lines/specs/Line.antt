@@ -11,7 +11,8 @@ use Rattle.reply.specs.Bytes.{Bytes, Written}
 use Rattle.reply.specs.Reply.{Said, count, refused}
 use Rattle.answer.specs.Bitmap.{bit}
 
--- At most `most` digits of a number, with no zero in front: those before the last one, and the last one. The digit d is the byte `code "0" + d`.
+-- At most `most` digits of a number, with no zero in front: those before the last one, and the last one. The digit d is the byte
+-- `code "0" + d`.
 unfoldable pub digits : ℕ → ℕ → Bytes
 digits zero n = []
 digits (suc most) n = cond (ltb n 10) [] (digits most (n / 10)) ++ (code "0" + n % 10) ∷ []

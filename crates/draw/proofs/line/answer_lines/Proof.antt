@@ -4,14 +4,13 @@ use native.Mathlib.Omega.{arith}
 use lib.ListN.{length}
 use borrow.Rule.Slice.PartMut.{mid-len}
 use borrow.Author.Needs.{needs}
-use Rattle.curator.specs.Promise.{CuratorAnswered}
 use Rattle.draw.specs.Drawn.{LineFor}
 use Rattle.draw.proofs.Drawing.{Going, at-first, no-line, no-room, one-line}
 use Rattle.draw.proofs.line.answer_lines.Statement.{statement}
 use Rattle.draw.proofs.line.answer_lines.Tie as tie
 
 abbrev Inv-loop : tie.InvT-loop
-Inv-loop roll view filters input out₀ read₀ written₀ out read written = Going (LineFor (CuratorAnswered roll view filters)) input out₀ read written out
+Inv-loop roll view filters input out₀ read₀ written₀ out read written = Going (LineFor roll view filters) input out₀ read written out
 
 abbrev μ-loop : tie.MeasureT-loop
 μ-loop roll view filters input out₀ read₀ written₀ out read written = length input - read
@@ -22,7 +21,8 @@ loop-again c =
     let answered = c .before .before in
     let parted = answered .before .before .before in
     let found = parted .before in
-    one-line (found .before .before .loop .inv) (found .find .ensures .0) (found .find .ensures .1) (parted .if1 .left) (answered .answer-line .ensures)
+    let head = found .before .before in
+    one-line (head .loop .inv) (found .find .ensures .0) (found .find .ensures .1) (parted .if1 .left) (answered .answer-line .ensures)
 
 loop-holds : tie.Need-loop-holds Inv-loop μ-loop
 loop-holds c = at-first _ _

@@ -80,7 +80,10 @@ module _ (t : ℕ) where
       let first = last .before .before .before .before in
       let start = first .before .before .before .before in
       let large = first .before .before .if1 .left in
-      rw (decimal-large (start .args .n) large) (put-then (omega (arith, first .put-decimal .ensures .end, start .pre .1, one-digit-more (start .args .n) large)) (first .put-decimal .ensures) (last .put-byte2 .ensures))
+      let n = start .args .n in
+      rw (decimal-large n large)
+      (put-then (omega (arith, first .put-decimal .ensures .end, start .pre .1, one-digit-more n large))
+      (first .put-decimal .ensures) (last .put-byte2 .ensures))
 
 pub +put-decimal-spec : {M : Type 1} → statement M
 +put-decimal-spec = close μ λ t. lts.spec (claims t) (own t) reads.Post

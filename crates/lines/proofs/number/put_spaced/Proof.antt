@@ -20,7 +20,8 @@ returns c =
     let number = c .before .before in
     let space = number .before .before .before .before in
     let start = space .before .before .before in
-    rw (spaced-one (start .args .n)) (put-then (omega (arith, space .put-byte .ensures .end, start .pre)) (space .put-byte .ensures) (number .put-decimal .ensures))
+    rw (spaced-one (start .args .n))
+    (put-then (omega (arith, space .put-byte .ensures .end, start .pre)) (space .put-byte .ensures) (number .put-decimal .ensures))
 
 pub put-spaced-spec : {M : Type 1} → statement M
 put-spaced-spec = tie.close (tie.spec put-byte-requires put-decimal-requires same-length returns)

@@ -17,7 +17,14 @@ put-spaced-requires c κs =
     let letter = c .before .before .before in
     let start = letter .before .before .before in
     let n = start .args .n in
-    omega (arith, letter .put-byte .ensures .end, letter .put-byte .kept .0, start .pre, spaced-length n, spaced-number n (start .fits .n .fits))
+    omega (
+      arith,
+      letter .put-byte .ensures .end,
+      letter .put-byte .kept .0,
+      start .pre,
+      spaced-length n,
+      spaced-number n (start .fits .n .fits),
+    )
 
 put-positions-requires : tie.Need-put-positions-requires
 put-positions-requires c κs =

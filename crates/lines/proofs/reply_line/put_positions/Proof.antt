@@ -1,4 +1,5 @@
--- `put_positions` meets its contract: the positions before those that are left are written. The measure is how many are left. Assumes nothing.
+-- `put_positions` meets its contract: the positions before those that are left are written. The measure is how many are left.
+-- Assumes nothing.
 use native.Mathlib.Omega.{arith}
 use Rattle.lines.proofs.Listing.{Listed, none-listed, listed-end, listed-length, list-one, all-listed}
 use Rattle.lines.proofs.reply_line.put_positions.Statement.{statement}
@@ -21,7 +22,8 @@ put-position-requires c κs =
     let head = c .before .before in
     let room = head .before .before .pre in
     let some = c .before .loop-test .taken in
-    (omega (arith, head .loop .inv .few), omega (arith, head .loop .inv .few, listed-end (head .loop .inv), listed-length room (head .loop .inv)))
+    let inv = head .loop .inv in
+    (omega (arith, inv .few), omega (arith, inv .few, listed-end inv, listed-length room inv))
 
 sub-left : tie.Need-sub-left Inv-loop μ-loop
 sub-left c = omega arith

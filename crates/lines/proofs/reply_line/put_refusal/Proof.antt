@@ -15,7 +15,14 @@ put-spaced-requires c κs =
     let letter = c .before .before .before in
     let start = letter .before .before .before in
     let n = start .args .number in
-    omega (arith, letter .put-byte .ensures .end, letter .put-byte .kept .0, start .pre, spaced-length n, spaced-number n (start .fits .number .fits))
+    omega (
+      arith,
+      letter .put-byte .ensures .end,
+      letter .put-byte .kept .0,
+      start .pre,
+      spaced-length n,
+      spaced-number n (start .fits .number .fits),
+    )
 
 put-spaced-requires-2 : tie.Need-put-spaced-requires-2
 put-spaced-requires-2 c κs =
