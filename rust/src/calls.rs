@@ -1,0 +1,52 @@
+//! The functions of the library, as `include/kepolas.h` declares them. Nothing checks these declarations against the library.
+
+extern "C" {
+    pub fn kepolas_check_roll(roll: *const u8, roll_len: usize, told: *mut usize) -> u64;
+    pub fn kepolas_read_text(text: *const u8, text_len: usize, room: *mut u8, room_len: usize, told: *mut usize)
+        -> u64;
+    pub fn kepolas_answer_on_roll(
+        roll: *const u8,
+        roll_len: usize,
+        query: *const u8,
+        query_len: usize,
+        room: *mut u8,
+        room_len: usize,
+        told: *mut usize,
+    ) -> u64;
+    pub fn kepolas_cut_view(
+        roll: *const u8,
+        roll_len: usize,
+        annotation: *const u8,
+        annotation_len: usize,
+        filters: *const u8,
+        filters_len: usize,
+        room: *mut u8,
+        room_len: usize,
+        told: *mut usize,
+    ) -> u64;
+    pub fn kepolas_rewrite(
+        annotation: *const u8,
+        annotation_len: usize,
+        filters: *const u8,
+        filters_len: usize,
+        query: *const u8,
+        query_len: usize,
+        room: *mut u8,
+        room_len: usize,
+        told: *mut usize,
+    ) -> u64;
+    pub fn kepolas_curators_answer(
+        roll: *const u8,
+        roll_len: usize,
+        annotation: *const u8,
+        annotation_len: usize,
+        filters: *const u8,
+        filters_len: usize,
+        query: *const u8,
+        query_len: usize,
+        room: *mut u8,
+        room_len: usize,
+        told: *mut usize,
+    ) -> u64;
+    pub fn kepolas_run_of(roll: *const u8, roll_len: usize, record: usize, start: *mut usize, end: *mut usize);
+}
