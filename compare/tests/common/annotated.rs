@@ -18,9 +18,9 @@ impl Annotated {
     /// Document 01's roll to work with.
     pub fn worked() -> Annotated {
         Annotated {
-            roll: include_bytes!("../../../example/roll.rec").to_vec(),
-            annotation: include_bytes!("../../../example/view.rec").to_vec(),
-            filters: include_bytes!("../../../example/filters.rec").to_vec(),
+            roll: include_bytes!("../../../examples/worked/roll.rec").to_vec(),
+            annotation: include_bytes!("../../../examples/worked/view.rec").to_vec(),
+            filters: include_bytes!("../../../examples/worked/filters.rec").to_vec(),
         }
     }
 
