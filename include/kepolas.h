@@ -1,6 +1,6 @@
 /* The seven calls of Kepolas for C and C++. The library is written by `rt staticlib kepolas` to target/staticlib/libkepolas.a.
- * docs/MANUAL.md has all rules; what a call promises is proved (crates/kepolas/src/lib.rt). That these declarations fit the library is
- * not.
+ * docs/MANUAL.md has all rules; what a call promises is proved (crates/kepolas/src/lib.rt). These declarations are not, but a test holds
+ * them to that source (rust/tests/declarations.rs).
  *
  * - Bytes are handed over as a pointer and a length. The pointer must be good for its length; where the length is 0 it may be any pointer
  *   but null.
@@ -83,9 +83,9 @@ uint64_t kepolas_curators_answer(const uint8_t *roll, size_t roll_len, const uin
                                  const uint8_t *filters, size_t filters_len, const uint8_t *query, size_t query_len,
                                  uint8_t *room, size_t room_len, size_t *told);
 
-/* Call 7: the run of a record, its own bytes and those of all its descendants: the bytes of the roll from start up to end, which is not
+/* Call 7: the run of record k, its own bytes and those of all its descendants: the bytes of the roll from start up to end, which is not
  * among them. A bad roll or a record that is not in it gives 0 and 0. */
-void kepolas_run_of(const uint8_t *roll, size_t roll_len, size_t record, size_t *start, size_t *end);
+void kepolas_run_of(const uint8_t *roll, size_t roll_len, size_t k, size_t *start, size_t *end);
 
 #ifdef __cplusplus
 }

@@ -1,4 +1,4 @@
-//! The functions of the library, as `include/kepolas.h` declares them. Nothing checks these declarations against the library.
+//! The functions of the library. `tests/declarations.rs` compares these declarations with the proved source and the header.
 
 extern "C" {
     pub fn kepolas_check_roll(roll: *const u8, roll_len: usize, told: *mut usize) -> u64;
@@ -48,5 +48,5 @@ extern "C" {
         room_len: usize,
         told: *mut usize,
     ) -> u64;
-    pub fn kepolas_run_of(roll: *const u8, roll_len: usize, record: usize, start: *mut usize, end: *mut usize);
+    pub fn kepolas_run_of(roll: *const u8, roll_len: usize, k: usize, start: *mut usize, end: *mut usize);
 }

@@ -4,7 +4,7 @@
 //! checks its inputs itself, so any bytes may be handed in. It answers with a count, or with a [`Refusal`]: a reason, which
 //! has a number and a name, and a place. A refused call changes no byte of the room lent to it.
 //!
-//! The calls are proved; this crate and its declarations of them are not. They keep no state and may run in several threads
+//! The calls are proved; this crate around them is not. They keep no state and may run in several threads
 //! at once. [`answer_on_roll`] takes at most about 706 KB of stack, [`curators_answer`] about 424 KB, measured and not
 //! proved; [`cut_view`] has not been measured. The library is for x86-64 Linux: `rt staticlib kepolas` writes it.
 //!
