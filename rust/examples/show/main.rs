@@ -81,3 +81,30 @@ fn print(text: &str) -> Result<(), String> {
         _ => Ok(()),
     }
 }
+
+#[cfg(test)]
+mod tests {
+    use super::*;
+
+    fn asked(line: &str) -> Option<Asked> {
+        asked_for(line.split(' ').map(OsString::from))
+    }
+
+    #[test]
+    fn a_folder_a_query_and_a_file_are_taken_in_any_place() {
+        for line in ["rolls v/v --svg out", "rolls --svg out v/v", "--svg out rolls v/v"] {
+            let asked = asked(line).unwrap();
+            assert_eq!((asked.folder, asked.query), (PathBuf::from("rolls"), Some(OsString::from("v/v"))));
+            assert_eq!(asked.svg, Some(PathBuf::from("out")));
+        }
+        assert!(asked("rolls").is_some_and(|asked| asked.query.is_none() && asked.svg.is_none()));
+    }
+
+    #[test]
+    fn any_other_line_is_bad_usage() {
+        assert!(asked_for(std::iter::empty()).is_none());
+        for line in ["--svg out", "rolls --svg", "rolls v v", "rolls --png out", "rolls --svg a --svg b", "--help"] {
+            assert!(asked(line).is_none(), "{line}");
+        }
+    }
+}
