@@ -1,4 +1,4 @@
--- What the program writes for what it reads on standard input.
+-- What answers the whole lines of a piece of standard input. That the program reads it all and writes this out is no part of it.
 use Prim.Native.Nat.{ℕ}
 use Prim.Native.Char.{code}
 use mathlib.Core.List.{[], _∷_, _++_, List·Memᴰ}
