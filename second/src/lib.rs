@@ -1,6 +1,6 @@
 //! A second program for document 01, written from that document alone.
 //!
-//! It exists to disagree: every call is worked out by plain means (sets of nodes, relations walked node by node, the
+//! It exists to disagree: every call is worked out by plain means (sets of nodes and where a path takes them, the
 //! view cut out before it is queried), so that a mistake in a cleverer program shows as a difference.
 
 pub mod annotation;

@@ -38,7 +38,7 @@ fn is_visible(roll: &Tree, annotation: &Annotation, meaning: &mut Meaning, node:
         let filter = annotation.filter_for(roll.label(parent), roll.label(above))?;
         Some((filter, above))
     });
-    decided.is_none_or(|(filter, above)| meaning.holds(filter, above))
+    decided.is_none_or(|(filter, above)| meaning.holding(filter).contains(&above))
 }
 
 /// The position of the nearest visible proper ancestor. Only the root has none.

@@ -4,7 +4,7 @@ mod common;
 
 use common::*;
 use second::meaning::{Meaning, Nodes};
-use second::roll::Tree;
+use second::roll::{Node, Tree};
 use second::table::{self, Entry, CURATORS_QUERY};
 
 type Relation = Vec<Vec<bool>>;
@@ -75,15 +75,17 @@ fn every_entry_means_its_relation_at_every_node() {
         let table = some_table(&mut chance, limits, 3, true);
         let mut meaning = Meaning::new(&tree, &table);
         for (number, relation) in relations(&tree, &table).iter().enumerate() {
+            let related = |from: Node, to: Node| relation[usize::from(from)][usize::from(to)];
             for node in tree.nodes() {
-                let row = &relation[usize::from(node)];
-                let related: Nodes = tree.nodes().filter(|to| row[usize::from(*to)]).collect();
+                let led: Nodes = tree.nodes().filter(|to| related(node, *to)).collect();
                 if table[number].is_path() {
-                    assert_eq!(*meaning.reached_from(number, node), related);
-                    reaching += usize::from(related.len() > 1);
+                    let came: Nodes = tree.nodes().filter(|from| related(*from, node)).collect();
+                    assert_eq!(meaning.image(number, &Nodes::from([node])), led);
+                    assert_eq!(meaning.preimage(number, &Nodes::from([node])), came);
+                    reaching += usize::from(led.len() > 1);
                 } else {
-                    assert_eq!(meaning.holds(number, node), !related.is_empty());
-                    holding += related.len();
+                    assert_eq!(meaning.holding(number).contains(&node), !led.is_empty());
+                    holding += led.len();
                 }
             }
         }
@@ -98,6 +100,40 @@ fn an_image_is_what_is_reached_from_any_node_of_the_set() {
     let mut meaning = Meaning::new(&tree, &table);
     assert_eq!(meaning.image(0, &Nodes::from([1, 8, 12])), Nodes::from([2, 6, 9, 10]));
     assert_eq!(meaning.image(0, &Nodes::new()), Nodes::new());
+    assert_eq!(meaning.preimage(0, &Nodes::from([2, 6, 9])), Nodes::from([1, 8]));
+}
+
+#[test]
+fn sets_are_walked_as_their_nodes_are_one_by_one() {
+    let mut chance = Chance::new(5);
+    let limits = table::Limits { entries: 40, ..CURATORS_QUERY };
+    let mut joined = 0;
+    for _ in 0..2000 {
+        let tree = Tree::read(&some_roll(&mut chance, 20, 3)).unwrap();
+        let table = some_table(&mut chance, limits, 3, true);
+        let (mut of_sets, mut of_nodes) = (Meaning::new(&tree, &table), Meaning::new(&tree, &table));
+        let nodes: Nodes = tree.nodes().filter(|_| chance.one_in(2)).collect();
+        let last = table.len() - 1;
+        let images: Vec<Nodes> = nodes.iter().map(|node| of_nodes.answer_from(*node)).collect();
+        assert_eq!(of_sets.image(last, &nodes), images.iter().flatten().copied().collect());
+        let preimages: Vec<Nodes> = nodes.iter().map(|node| of_nodes.preimage(last, &Nodes::from([*node]))).collect();
+        assert_eq!(of_sets.preimage(last, &nodes), preimages.iter().flatten().copied().collect());
+        joined += usize::from(images.iter().any(|image| image.len() > 1));
+    }
+    assert!(joined > 500, "the draws are too plain: {joined}");
+}
+
+#[test]
+fn stars_on_the_greatest_rolls_are_answered() {
+    let chain = roll(&(0..4096).map(|node: u16| (1, node.wrapping_sub(1))).collect::<Vec<_>>());
+    let wide = [roll(&[(1, NO_PARENT)]), roll(&[(1, 0)]).repeat(4095)].concat();
+    let stars = table(&[vec![entry(2, 0, 0, 0)], (0..127).map(|below| entry(9, 0, below, 0)).collect()].concat());
+    let back_and_forth = query("v*/^*/v*/>*/<*/v*/^*/v*/[!v]");
+    for (roll, leaves) in [(chain, 1), (wide, 4095)] {
+        for (query, reached) in [(&query(&["v*"; 8].join("/")), 4096), (&stars, 4096), (&back_and_forth, leaves)] {
+            assert_eq!(nodes_answered(|room| second::answer_on_roll(&roll, query, room)).len(), reached);
+        }
+    }
 }
 
 #[test]
