@@ -1,11 +1,14 @@
-//! The calls of the proved library, by the crate `kepolas`, and the probe, with the replies of the second program.
+//! The proved library beside the second program: the calls of the first, by the crate `kepolas`, with the replies of the second; inputs
+//! that are drawn by chance; and what both programs must agree in. The tests and the long run share all of it.
+
+pub mod annotated;
+pub mod chance;
+pub mod records;
+pub mod same;
+pub mod tables;
 
 use kepolas::Refusal;
 use second::Reply;
-
-extern "C" {
-    fn probe_check_query(query: *const u8, query_len: usize, told: *mut usize) -> u64;
-}
 
 /// An answer as the second program has it.
 fn reply(answer: Result<usize, Refusal>) -> Reply {
@@ -48,14 +51,4 @@ pub fn curators_answer(roll: &[u8], annotation: &[u8], filters: &[u8], query: &[
 /// Call 7.
 pub fn run_of_record(roll: &[u8], record: usize) -> &[u8] {
     kepolas::run_of(roll, record)
-}
-
-/// The check of a query table that is to be answered on a roll: no call of document 01, but a part of call 3.
-pub fn check_query(query: &[u8]) -> Reply {
-    let mut told = 0;
-    // SAFETY: the slice is good for its length and only read; `told` overlaps nothing.
-    match unsafe { probe_check_query(query.as_ptr(), query.len(), &mut told) } {
-        0 => Reply::Count(told),
-        number => Reply::Refused { number: u8::try_from(number).expect("there are 17 refusals"), place: told },
-    }
 }

@@ -1,13 +1,15 @@
 //! Call 3: the proved library and the second program answer the same queries on the same rolls.
 
-mod common;
-
 use std::collections::BTreeSet;
 
-use common::tables::{spoil, table_of, Table, FILTERS, PATHS};
-use common::{cases, chain, entry, from_hex, grown_roll, node, wide, Chance, NO_PARENT, UNTOUCHED};
+use compare::tables::{spoil, table_of, Table, FILTERS, PATHS};
+use compare::chance::Chance;
+use compare::records::{cases, chain, entry, from_hex, grown_roll, node, wide, NO_PARENT};
 use second::calls::nodes_of_bitmap;
 use second::Reply;
+
+/// What rooms hold before a call.
+const UNTOUCHED: u8 = 0xA5;
 
 const ROOM: usize = 512;
 
@@ -70,7 +72,7 @@ fn the_listed_draws() {
 
 #[test]
 fn grown_tables_and_spoilt_ones() {
-    let mut chance = Chance(0x5eed_0005);
+    let mut chance = Chance::new(5);
     let (mut refusals, mut kinds) = (BTreeSet::new(), BTreeSet::new());
     let (mut empty, mut one, mut several) = (0, 0, 0);
     for _ in 0..60_000 {
@@ -112,7 +114,7 @@ fn tower(kind: u8, height: usize) -> Vec<u8> {
 
 #[test]
 fn the_limits_of_a_table() {
-    let mut chance = Chance(0x5eed_0006);
+    let mut chance = Chance::new(6);
     let roll = grown_roll(&mut chance, 20, 3);
     assert_eq!(same(&roll, &tower(9, 128), ROOM), Reply::Count(20));
     assert_eq!(same(&roll, &tower(9, 129), ROOM), Reply::Refused { number: 9, place: 128 });
@@ -130,8 +132,8 @@ fn the_limits_of_a_table() {
 
 #[test]
 fn the_greatest_rolls() {
-    let mut chance = Chance(0x5eed_0007);
-    for roll in [chain(), wide(), grown_roll(&mut chance, 4096, 3)] {
+    let mut chance = Chance::new(7);
+    for roll in [chain(4096), wide(4096), grown_roll(&mut chance, 4096, 3)] {
         assert_eq!(records(&roll, "v*"), (0..4096).collect::<Vec<_>>());
         for text in ["v", "v/v", "v*/>", "v*/<", "v*/^", "v*/[#1]", "v*/[!v]", "v*/[!>]", "v*/[!^]", "v/>*", "(v|>)*"] {
             same(&roll, &table_of(text), ROOM);

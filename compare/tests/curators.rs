@@ -1,14 +1,16 @@
 //! Call 6: the proved library and the second program give a curator the same answers, and so do call 4 and then call 3.
 
-mod common;
-
 use std::collections::BTreeSet;
 
-use common::annotated::Annotated;
-use common::tables::{spoil, table_of, Table};
-use common::{cases, entry, from_hex, grown_roll, Chance, UNTOUCHED};
+use compare::annotated::Annotated;
+use compare::tables::{spoil, table_of, Table};
+use compare::chance::Chance;
+use compare::records::{cases, entry, from_hex, grown_roll};
 use second::calls::nodes_of_bitmap;
 use second::Reply;
+
+/// What rooms hold before a call.
+const UNTOUCHED: u8 = 0xA5;
 
 const ROOM: usize = 512;
 
@@ -81,7 +83,7 @@ fn the_listed_draws() {
 
 #[test]
 fn grown_queries_and_spoilt_ones() {
-    let mut chance = Chance(0x5eed_000c);
+    let mut chance = Chance::new(12);
     let mut refusals = BTreeSet::new();
     let (mut empty, mut one, mut several, mut unlike_roll) = (0, 0, 0, 0);
     for _ in 0..40_000 {
@@ -142,7 +144,7 @@ fn the_limits_of_a_query() {
 /// Random rolls of 4,096 nodes whose nodes with label 2 are hidden.
 #[test]
 fn the_greatest_rolls() {
-    let mut chance = Chance(0x5eed_000d);
+    let mut chance = Chance::new(13);
     for labels in [2, 3] {
         let records =
             (1..=3).flat_map(|parent| [entry(parent, 1, 0, 0), entry(parent, 2, 1, 0), entry(parent, 3, 0, 0)]);

@@ -1,7 +1,5 @@
 //! The program: its lines, its files and how it is driven, beside what the second program says of each text.
 
-mod common;
-
 use std::fs::{self, File};
 use std::io::{BufRead, BufReader, Read, Write};
 use std::os::unix::fs::symlink;
@@ -11,7 +9,8 @@ use std::sync::mpsc;
 use std::thread;
 use std::time::{Duration, Instant};
 
-use common::{chain, entry, grown_roll, node, wide, Chance, NO_PARENT};
+use compare::chance::Chance;
+use compare::records::{chain, entry, grown_roll, node, wide, NO_PARENT};
 use second::calls::nodes_of_bitmap;
 use second::Reply;
 
@@ -184,7 +183,7 @@ fn the_worked_cases_on_the_roll() {
 fn rolls_at_their_limits() {
     let open = Files::open();
     let all = (0..4096).fold("A 4096".to_string(), |line, position| line + &format!(" {position}"));
-    for (name, roll, text, line) in [("chain", chain(), "v/v", "A 1 2"), ("wide", wide(), "v*", &all)] {
+    for (name, roll, text, line) in [("chain", chain(4096), "v/v", "A 1 2"), ("wide", wide(4096), "v*", &all)] {
         let folder = Folder::new(name, &Files { roll: roll.clone(), ..open.clone() });
         assert_eq!(folder.drawn(text.as_bytes()), format!("{line}\n"));
         folder.put("roll.rec", &[roll, node(1, 0).to_vec()].concat());
@@ -238,7 +237,7 @@ fn lines_in_pieces_of_any_size() {
     let folder = Folder::new("pieces", &files);
     let texts: [&[u8]; 7] = [b"v/v", b"v//v", b"[f]", b"", b"v*/[#5]", b"(v|v/v)*", b"v*/^"];
     let lines = texts.map(|text| files.line(text));
-    let mut chance = Chance(0x5eed_0013);
+    let mut chance = Chance::new(19);
     let many: Vec<usize> = (0..40_000).map(|_| chance.below(texts.len())).collect();
     let joined = |many: &[usize]| {
         let input = many.iter().flat_map(|one| [texts[*one], b"\n"].concat()).collect::<Vec<u8>>();
@@ -256,7 +255,7 @@ fn lines_in_pieces_of_any_size() {
 /// Output of many longest lines, each of which would fill a quarter of the buffer.
 #[test]
 fn long_answers() {
-    let files = Files { roll: wide(), ..Files::open() };
+    let files = Files { roll: wide(4096), ..Files::open() };
     let folder = Folder::new("long_answers", &files);
     let line = files.line(b"v*");
     assert_eq!(line.len(), 19_377);
@@ -395,7 +394,7 @@ fn looking_around() -> Files {
 fn the_same_lines_as_the_second_program() {
     let texts = ". ^ v v/v v* v*/> v*/< v*/^ v*/[#2] v*/[!v]/^ (v|>)*/[#3+#2] v/[!v/[#4]] v*/[v/[#2]&!<] (v/>*)* v*/[>/v] v//v v/  [t] [f]";
     let texts: Vec<&[u8]> = texts.split(' ').map(str::as_bytes).collect();
-    let mut chance = Chance(0x5eed_0006);
+    let mut chance = Chance::new(6);
     for round in 0..150 {
         let size = 1 + chance.below(if round % 10 == 0 { 600 } else { 60 });
         let (labels, files) = if round % 2 == 0 { (8, Files::worked()) } else { (3, looking_around()) };

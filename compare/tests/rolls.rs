@@ -1,8 +1,7 @@
 //! Calls 1 and 7: the proved library and the second program judge the same rolls.
 
-mod common;
-
-use common::{cases, chain, from_hex, grown_roll, node, wide, Chance};
+use compare::chance::Chance;
+use compare::records::{cases, chain, from_hex, grown_roll, node, wide};
 
 /// Both programs on one roll and record: the same reply, the same part.
 fn same(roll: &[u8], record: usize) {
@@ -25,7 +24,7 @@ fn the_listed_rolls() {
 
 #[test]
 fn grown_rolls_and_spoilt_ones() {
-    let mut chance = Chance(0x5eed_0003);
+    let mut chance = Chance::new(3);
     for _ in 0..20_000 {
         let size = 1 + chance.below(20);
         let mut roll = grown_roll(&mut chance, size, 64);
@@ -40,12 +39,12 @@ fn grown_rolls_and_spoilt_ones() {
 
 #[test]
 fn the_greatest_rolls() {
-    for roll in [&chain(), &wide()] {
+    for roll in [&chain(4096), &wide(4096)] {
         for record in [0, 1, 2, 4094, 4095, 4096, usize::MAX] {
             same(roll, record);
         }
     }
-    let long: Vec<u8> = [chain().as_slice(), &node(1, 0)].concat();
+    let long: Vec<u8> = [chain(4096).as_slice(), &node(1, 0)].concat();
     same(&long, 0);
     same(&[], 0);
 }

@@ -1,12 +1,14 @@
 //! Call 4: the proved library and the second program cut the same views out of the same rolls.
 
-mod common;
-
 use std::collections::BTreeSet;
 
-use common::annotated::Annotated;
-use common::{cases, chain, entry, from_hex, node, Chance, NO_PARENT, UNTOUCHED};
+use compare::annotated::Annotated;
+use compare::chance::Chance;
+use compare::records::{cases, chain, entry, from_hex, node, NO_PARENT};
 use second::Reply;
+
+/// What rooms hold before a call.
+const UNTOUCHED: u8 = 0xA5;
 
 /// Both programs on one input: the same reply, the same room to its last byte. What is written is a roll of as many nodes as are counted.
 fn same(input: &Annotated, room: usize) -> (Reply, Vec<u8>) {
@@ -55,7 +57,7 @@ fn the_listed_draws() {
 
 #[test]
 fn grown_rolls_and_spoilt_ones() {
-    let mut chance = Chance(0x5eed_0008);
+    let mut chance = Chance::new(8);
     let mut refusals = BTreeSet::new();
     let (mut whole, mut parts) = (0, 0);
     for _ in 0..100_000 {
@@ -83,7 +85,7 @@ fn tower(entries: usize, height: usize, records: usize) -> Annotated {
     let filter = |at: usize| if at % height == 0 { entry(18, 0, 0, 0) } else { entry(20, 0, at - 1, 0) };
     let record = |at: usize| entry(1 + (at / 8) as u8, 1 + (at % 8) as u8, at % entries.max(1), 0);
     Annotated {
-        roll: chain(),
+        roll: chain(4096),
         annotation: (0..records).flat_map(record).collect(),
         filters: (0..entries).flat_map(filter).collect(),
     }
@@ -118,10 +120,10 @@ fn the_greatest_rolls() {
     let room = 4 * 4096;
     assert_eq!(same(&hiding(|at| 1 + (at % 2) as u8), room).0, Reply::Count(2048));
     assert_eq!(same(&hiding(|at| if at % 4095 == 0 { 1 } else { 2 }), room).0, Reply::Count(2));
-    let mut chance = Chance(0x5eed_0009);
+    let mut chance = Chance::new(9);
     for _ in 0..20 {
         let mut input = Annotated::grown(&mut chance, 1);
-        input.roll = common::grown_roll(&mut chance, 4096, 3);
+        input.roll = compare::records::grown_roll(&mut chance, 4096, 3);
         same(&input, room);
     }
 }

@@ -2,12 +2,13 @@
 
 use second::Reply;
 
-use super::{entry, Chance};
+use crate::chance::Chance;
+use crate::records::entry;
 
 /// The table of a text, as the proved reader writes it.
 pub fn table_of(text: &str) -> Vec<u8> {
     let mut room = [0; 1536];
-    let Reply::Count(entries) = compare::read_text(text.as_bytes(), &mut room) else { panic!("{text}") };
+    let Reply::Count(entries) = crate::read_text(text.as_bytes(), &mut room) else { panic!("{text}") };
     room[..entries * 6].to_vec()
 }
 

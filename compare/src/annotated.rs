@@ -5,9 +5,11 @@ use second::roll::Tree;
 use second::table::{read_filters, FILTER_TABLE};
 use second::view::View;
 
-use super::tables::{spoil, Table, LABELS};
-use super::{entry, grown_roll, Chance};
+use crate::chance::Chance;
+use crate::records::{entry, grown_roll};
+use crate::tables::{spoil, Table, LABELS};
 
+#[derive(Clone)]
 pub struct Annotated {
     pub roll: Vec<u8>,
     pub annotation: Vec<u8>,
@@ -18,10 +20,17 @@ impl Annotated {
     /// Document 01's roll to work with.
     pub fn worked() -> Annotated {
         Annotated {
-            roll: include_bytes!("../../../examples/worked/roll.rec").to_vec(),
-            annotation: include_bytes!("../../../examples/worked/view.rec").to_vec(),
-            filters: include_bytes!("../../../examples/worked/filters.rec").to_vec(),
+            roll: include_bytes!("../../examples/worked/roll.rec").to_vec(),
+            annotation: include_bytes!("../../examples/worked/view.rec").to_vec(),
+            filters: include_bytes!("../../examples/worked/filters.rec").to_vec(),
         }
+    }
+
+    /// An annotation that hides nodes with label 2 and shows those with label 1 or 3, with no roll yet.
+    pub fn hiding_label_2() -> Annotated {
+        let shown = |parent: u8| [entry(parent, 1, 0, 0), entry(parent, 2, 1, 0), entry(parent, 3, 0, 0)];
+        let annotation = (1..=3).flat_map(shown).flatten().collect();
+        Annotated { roll: Vec::new(), annotation, filters: [entry(18, 0, 0, 0), entry(19, 0, 0, 0)].concat() }
     }
 
     /// A roll of at most so many nodes; most pairs of labels have a record. One in eight has no record.
