@@ -7,7 +7,7 @@ use second::view::View;
 
 use crate::chance::Chance;
 use crate::records::{entry, grown_roll};
-use crate::tables::{spoil, Table, LABELS};
+use crate::tables::{Table, LABELS};
 
 #[derive(Clone)]
 pub struct Annotated {
@@ -37,25 +37,18 @@ impl Annotated {
     pub fn grown(chance: &mut Chance, most: usize) -> Annotated {
         let tries = chance.below(24);
         let filters = Table::within(FILTER_TABLE.height, 60).grown(chance, tries);
-        let mut annotation = Vec::new();
-        let none = filters.filters.is_empty() || chance.below(8) == 0;
-        for pair in 0..LABELS * LABELS {
-            if !none && chance.below(3) > 0 {
-                let filter = chance.pick(&filters.filters);
-                annotation.extend(entry(1 + (pair / LABELS) as u8, 1 + (pair % LABELS) as u8, filter, 0));
-            }
-        }
+        let none = filters.filters.is_empty() || chance.one_in(8);
+        let annotation = if none { Vec::new() } else { records(chance, &filters, LABELS) };
         let size = 1 + chance.below(most);
         Annotated { roll: grown_roll(chance, size, LABELS), annotation, filters: filters.bytes }
     }
 
-    /// Damage to one or more of the three.
-    pub fn spoil(&mut self, chance: &mut Chance) {
-        for bytes in [&mut self.roll, &mut self.annotation, &mut self.filters] {
-            if chance.below(3) == 0 {
-                spoil(chance, bytes);
-            }
-        }
+    /// The same with a filter table and an annotation that come up to their limits, or nearly.
+    pub fn greatest(chance: &mut Chance, most: usize) -> Annotated {
+        let full = Table::greatest(chance, FILTER_TABLE, 60);
+        let annotation = if full.filters.is_empty() { Vec::new() } else { records(chance, &full, 8) };
+        let size = 1 + chance.below(most);
+        Annotated { roll: grown_roll(chance, size, LABELS), annotation, filters: full.bytes }
     }
 
     /// The view, as the second program cuts it out of a roll that is in order.
@@ -64,4 +57,16 @@ impl Annotated {
         let annotation = Annotation::read(&self.annotation, &filters).expect("the annotation is in order");
         View::cut(&Tree::read(&self.roll).expect("the roll is in order"), &annotation, &filters)
     }
+}
+
+/// Records for two in three pairs of the first labels, as far as an annotation has room for them.
+fn records(chance: &mut Chance, filters: &Table, labels: usize) -> Vec<u8> {
+    let mut records = Vec::new();
+    for pair in 0..labels * labels {
+        if chance.below(3) > 0 && records.len() < 32 * 6 {
+            let filter = chance.pick(&filters.filters);
+            records.extend(entry(1 + (pair / labels) as u8, 1 + (pair % labels) as u8, filter, 0));
+        }
+    }
+    records
 }

@@ -3,9 +3,13 @@
 
 pub mod annotated;
 pub mod chance;
+pub mod damage;
+pub mod draws;
 pub mod records;
 pub mod same;
+pub mod seen;
 pub mod tables;
+pub mod texts;
 
 use kepolas::Refusal;
 use second::Reply;

@@ -1,7 +1,9 @@
 //! Each call put to both programs: the same reply, and the same bytes in the whole room. What is held besides is that nothing is changed
 //! behind what is written, behind the room, or in an input.
 
-use second::table::{read_query, QUERY_ON_ROLL};
+use second::meaning::{Meaning, Nodes};
+use second::roll::{Node, Tree};
+use second::table::{read_query, CURATORS_QUERY, QUERY_ON_ROLL};
 use second::Reply;
 
 use crate::annotated::Annotated;
@@ -113,6 +115,31 @@ pub fn rewrite(annotation: &[u8], filters: &[u8], query: &[u8], room: usize) -> 
     ours
 }
 
+/// Call 5's meaning: the table written, and the second program's own, lead from every visible node to the records of what the query
+/// reaches on the view. Gives how many nodes are reached in all.
+pub fn rewritten_reaches(input: &Annotated, query: &[u8], table: &[u8]) -> usize {
+    let mut theirs = [0; REWRITE_ROOM];
+    let reply = second::rewrite(&input.annotation, &input.filters, query, &mut theirs);
+    let Reply::Count(entries) = reply else { panic!("the second program refuses it: {reply}") };
+    let (roll, view) = (Tree::read(&input.roll).expect("the roll is in order"), input.view());
+    let on_roll =
+        [table, &theirs[..6 * entries]].map(|table| read_query(table, QUERY_ON_ROLL).expect("it is in order"));
+    let query_read = read_query(query, CURATORS_QUERY).expect("the query is in order");
+    let mut on_view = Meaning::new(&view.tree, &query_read);
+    let mut on_roll = on_roll.each_ref().map(|table| Meaning::new(&roll, table));
+    let record = |position: Node| view.records[usize::from(position)];
+    let shown = || line(6, &[&input.roll, &input.annotation, &input.filters, query], BITMAP_ROOM);
+    let mut reached = 0;
+    for position in view.tree.nodes() {
+        let expected: Nodes = on_view.answer_from(position).into_iter().map(record).collect();
+        for meaning in &mut on_roll {
+            assert_eq!(meaning.answer_from(record(position)), expected, "from position {position}: {}", shown());
+        }
+        reached += expected.len();
+    }
+    reached
+}
+
 /// Call 6. Where nothing is refused, call 3 gives the same on what call 4 cuts out.
 pub fn curators_answer(input: &Annotated, query: &[u8], room: usize) -> Outcome {
     let Annotated { roll, annotation, filters } = input;
@@ -147,4 +174,10 @@ pub fn nodes((reply, bitmap): &Outcome) -> Vec<usize> {
     let nodes = second::calls::nodes_of_bitmap(bitmap);
     assert!(bitmap.is_empty() || *reply == Reply::Count(nodes.len()), "the count is not that of the ones");
     nodes
+}
+
+/// Reply and nodes as the files of cases write them.
+pub fn shown(outcome: &Outcome) -> String {
+    let nodes: Vec<String> = nodes(outcome).iter().map(usize::to_string).collect();
+    format!("{} {}", outcome.0, if nodes.is_empty() { "-".to_string() } else { nodes.join(",") })
 }

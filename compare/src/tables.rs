@@ -1,5 +1,6 @@
-//! Query tables that grow by chance, within limits, and damage to bytes.
+//! Query tables that grow by chance, within limits.
 
+use second::table::Limits;
 use second::Reply;
 
 use crate::chance::Chance;
@@ -102,25 +103,43 @@ impl Table {
         self
     }
 
+    /// The same with stars upon its last entry, a path, until that is so high.
+    pub fn raised(mut self, height: usize) -> Table {
+        while self.heights[self.len() - 1] < height {
+            self.push(9, 0, self.len() - 1, 0);
+        }
+        self
+    }
+
+    /// The same with steps behind it, until there are so many entries; the last of them is what the last entry was.
+    pub fn padded(mut self, chance: &mut Chance, entries: usize) -> Table {
+        let last = self.len() - 1;
+        if self.len() + 2 <= entries && self.heights[last] < self.highest {
+            while self.len() + 2 < entries {
+                self.push(chance.pick(&[1, 2, 3, 4, 5]), 0, 0, 0);
+            }
+            let here = self.push(1, 0, 0, 0);
+            self.push(7, 0, here, last);
+        }
+        self
+    }
+
     /// A query of a few entries.
     pub fn query(chance: &mut Chance) -> Table {
         let tries = 1 + chance.below(16);
         Table::within(30, 300).grown(chance, tries).ended(chance)
     }
-}
 
-/// A byte changed, struck out or put in, or the end cut off.
-pub fn spoil(chance: &mut Chance, bytes: &mut Vec<u8>) {
-    if bytes.is_empty() {
-        return bytes.push(chance.below(3) as u8);
-    }
-    let at = chance.below(bytes.len());
-    let byte = [0, 1, 2, 7, 16, 17, 64, 65, 255, bytes[at] ^ 1][chance.below(10)];
-    match chance.below(8) {
-        0 => drop(bytes.remove(at)),
-        1 => bytes.insert(at, byte),
-        2 => bytes.truncate(at),
-        3 => bytes.truncate(at / 6 * 6),
-        _ => bytes[at] = byte,
+    /// A query that comes up to its limits: in the number of entries, in height, or in both.
+    pub fn greatest(chance: &mut Chance, limits: Limits, largest: usize) -> Table {
+        let tries = chance.below(limits.entries - 8);
+        let grown = Table::within(limits.height - 2, largest).grown(chance, tries).ended(chance);
+        let height = if chance.one_in(2) { limits.height } else { 0 };
+        let entries = limits.entries - chance.below(3);
+        if height > 0 && grown.len() + limits.height < limits.entries {
+            grown.raised(height)
+        } else {
+            grown.padded(chance, entries)
+        }
     }
 }

@@ -1,58 +1,23 @@
 //! Call 5: its bytes are free, so what the proved library writes is held to what it has to be: within the limits, the filter table in
 //! front, and from every visible node of a roll an answer that is the query's on the view.
 
-use std::collections::BTreeSet;
-
 use compare::annotated::Annotated;
-use compare::tables::{spoil, table_of, Table};
 use compare::chance::Chance;
 use compare::records::{cases, entry, from_hex, grown_roll, node, NO_PARENT};
-use second::meaning::{Meaning, Nodes};
-use second::roll::{Node, Tree};
-use second::table::{heights, read_filters, read_query, CURATORS_QUERY, ENTRY_BYTES, FILTER_TABLE, QUERY_ON_ROLL};
+use compare::same::{self, rewritten_reaches, REWRITE_ROOM};
+use compare::tables::table_of;
+use second::roll::Tree;
+use second::table::{heights, read_filters, read_query, CURATORS_QUERY, FILTER_TABLE, QUERY_ON_ROLL};
 use second::Reply;
 
-/// What rooms hold before a call.
-const UNTOUCHED: u8 = 0xA5;
-
-const ROOM: usize = 6144;
-
-/// The table written, or the refusal, which is the second program's too. Bytes behind the table, or all on refusal, stay as they were.
+/// The table written, or the refusal.
 fn rewritten(annotation: &[u8], filters: &[u8], query: &[u8], room: usize) -> Result<Vec<u8>, Reply> {
-    let mut ours = vec![UNTOUCHED; room];
-    let reply = compare::rewrite(annotation, filters, query, &mut ours);
-    let theirs = second::rewrite(annotation, filters, query, &mut vec![UNTOUCHED; room]);
-    let shown = || format!("{annotation:?}, {filters:?} and {query:?}");
-    let written = match (reply, theirs) {
-        (Reply::Count(entries), Reply::Count(_)) => ENTRY_BYTES * entries,
-        _ => {
-            assert_eq!(reply, theirs, "{}", shown());
-            0
-        }
-    };
-    assert!(ours[written..].iter().all(|byte| *byte == UNTOUCHED), "{}", shown());
-    ours.truncate(written);
-    if written == 0 {
-        return Err(reply);
+    let (reply, table) = same::rewrite(annotation, filters, query, room);
+    if let Reply::Count(_) = reply {
+        Ok(table)
+    } else {
+        Err(reply)
     }
-    assert_eq!(ours[..filters.len()], *filters, "{}", shown());
-    Ok(ours)
-}
-
-/// The number of nodes that a query reaches on the view from all of its nodes; the rewritten one reaches the same from their records.
-fn reached(input: &Annotated, query: &[u8], rewritten: &[u8]) -> usize {
-    let (roll, view) = (Tree::read(&input.roll).expect("the roll is in order"), input.view());
-    let query = read_query(query, CURATORS_QUERY).expect("the query is in order");
-    let rewritten = read_query(rewritten, QUERY_ON_ROLL).expect("the rewritten query is in order");
-    let (mut on_view, mut on_roll) = (Meaning::new(&view.tree, &query), Meaning::new(&roll, &rewritten));
-    let record = |position: Node| view.records[usize::from(position)];
-    let mut reached = 0;
-    for position in view.tree.nodes() {
-        let expected: Nodes = on_view.answer_from(position).into_iter().map(record).collect();
-        assert_eq!(on_roll.answer_from(record(position)), expected, "from {position}: {query:?}");
-        reached += expected.len();
-    }
-    reached
 }
 
 #[test]
@@ -62,11 +27,11 @@ fn the_worked_roll() {
         [".", "^", "v", "v/v", "v*/[#5]", "v/>", "v/v/>", "v/v/>/<", "v*/^", "v/[!v/[#4]]", "[f]", "[t]", "(v|v/v)*"]
     {
         let query = table_of(text);
-        for room in [ROOM, ROOM + 1, ROOM + 100] {
+        for room in [REWRITE_ROOM, REWRITE_ROOM + 1, REWRITE_ROOM + 100] {
             let table = rewritten(&worked.annotation, &worked.filters, &query, room).expect("it is not refused");
-            reached(&worked, &query, &table);
+            rewritten_reaches(&worked, &query, &table);
         }
-        for room in [0, ROOM - 1] {
+        for room in [0, REWRITE_ROOM - 1] {
             let refused = rewritten(&worked.annotation, &worked.filters, &query, room);
             assert_eq!(refused, Err(Reply::Refused { number: 1, place: 0 }));
         }
@@ -80,12 +45,12 @@ fn the_listed_draws() {
     for case in cases(include_str!("../../second/tests/vectors/draws.txt")) {
         let [roll, annotation, filters, query] = [0, 1, 2, 3].map(|word| from_hex(case[word]));
         let listed = case.split(|word| *word == "|").nth(3).expect("it is the fourth part").join(" ");
-        match rewritten(&annotation, &filters, &query, ROOM) {
+        match rewritten(&annotation, &filters, &query, REWRITE_ROOM) {
             Err(refused) => assert_eq!(refused.to_string(), listed),
             Ok(table) => {
                 assert_eq!(listed, "A");
                 if Tree::read(&roll).is_ok() {
-                    reached(&Annotated { roll, annotation, filters }, &query, &table);
+                    rewritten_reaches(&Annotated { roll, annotation, filters }, &query, &table);
                     compared += 1;
                 }
             }
@@ -94,42 +59,13 @@ fn the_listed_draws() {
     assert!(compared > 150, "{compared}");
 }
 
-#[test]
-fn grown_queries_and_spoilt_ones() {
-    let mut chance = Chance::new(10);
-    let mut refusals = BTreeSet::new();
-    let (mut nowhere, mut somewhere) = (0, 0);
-    for _ in 0..30_000 {
-        let mut input = Annotated::grown(&mut chance, 16);
-        let tries = 1 + chance.below(30);
-        // The second program walks an entry once from a node, so that the query may unfold to any number.
-        let mut query = Table::within(30, usize::MAX).grown(&mut chance, tries).ended(&mut chance).bytes;
-        let room = ROOM + chance.below(9);
-        let table = rewritten(&input.annotation, &input.filters, &query, room).expect("it is not refused");
-        match reached(&input, &query, &table) {
-            0 => nowhere += 1,
-            _ => somewhere += 1,
-        }
-        for _ in 0..4 {
-            input.spoil(&mut chance);
-            spoil(&mut chance, &mut query);
-            let room = chance.pick(&[0, ROOM - 1, ROOM, ROOM, ROOM, ROOM, ROOM + 1]);
-            if let Err(Reply::Refused { number, .. }) = rewritten(&input.annotation, &input.filters, &query, room) {
-                refusals.insert(number);
-            }
-        }
-    }
-    assert!(refusals.iter().eq(&[1, 6, 7, 8, 10, 11, 12]), "{refusals:?}");
-    assert!(nowhere > 500 && somewhere > 15_000, "{nowhere} led nowhere, {somewhere} somewhere");
-}
-
 /// All rolls of up to six nodes, with every choice of hidden ones: a step along each axis from every visible node.
 #[test]
 fn every_step_on_every_small_roll() {
     let filters = [entry(18, 0, 0, 0), entry(19, 0, 0, 0)].concat();
     let annotation = [entry(1, 1, 0, 0), entry(1, 2, 1, 0), entry(2, 1, 0, 0), entry(2, 2, 1, 0)].concat();
     let steps = [2, 3, 4, 5].map(|kind| entry(kind, 0, 0, 0));
-    let tables = steps.map(|step| rewritten(&annotation, &filters, &step, ROOM).expect("it is not refused"));
+    let tables = steps.map(|step| rewritten(&annotation, &filters, &step, REWRITE_ROOM).expect("it is not refused"));
     let mut seen = [0; 4];
     let mut shapes: Vec<Vec<usize>> = vec![vec![NO_PARENT]];
     for nodes in 1..=6 {
@@ -139,7 +75,7 @@ fn every_step_on_every_small_roll() {
                 let roll = shape.iter().enumerate().flat_map(|(at, parent)| node(label(at), *parent)).collect();
                 let input = Annotated { roll, annotation: annotation.clone(), filters: filters.clone() };
                 for at in 0..4 {
-                    seen[at] += reached(&input, &steps[at], &tables[at]);
+                    seen[at] += rewritten_reaches(&input, &steps[at], &tables[at]);
                 }
             }
         }
@@ -180,21 +116,21 @@ fn the_largest_inputs() {
     // Labels 1 to 3 are the roll's; the pairs of the last records belong to no node of it.
     let record = |at: usize| entry(1 + (at / 4) as u8, 1 + (at % 4) as u8, 255, 0);
     let annotation: Vec<u8> = (0..32).flat_map(record).collect();
-    let table = rewritten(&annotation, &filters, &query, ROOM).expect("it is not refused");
+    let table = rewritten(&annotation, &filters, &query, REWRITE_ROOM).expect("it is not refused");
     let height = heights(&read_query(&table, QUERY_ON_ROLL).expect("it is in order")).into_iter().max();
     assert_eq!((table.len() / 6, height), (859, Some(96)));
     let mut chance = Chance::new(11);
     for size in [1, 2, 10, 100, 1000] {
         let roll = grown_roll(&mut chance, size, 3);
         let input = Annotated { roll, annotation: annotation.clone(), filters: filters.clone() };
-        let (shown, reached) = (input.view().tree.len(), reached(&input, &query, &table));
+        let (shown, reached) = (input.view().tree.len(), rewritten_reaches(&input, &query, &table));
         assert!(size < 100 || (1 < reached && reached < shown && shown < size), "{reached} of {shown} of {size}");
     }
     for (filters, query, number) in [
         (&[&filters[..], &entry(18, 0, 0, 0)].concat(), &query, 7),
         (&filters, &[&query[..], &entry(1, 0, 0, 0)].concat(), 12),
     ] {
-        assert_eq!(rewritten(&annotation, filters, query, ROOM), Err(Reply::Refused { number, place: 0 }));
+        assert_eq!(rewritten(&annotation, filters, query, REWRITE_ROOM), Err(Reply::Refused { number, place: 0 }));
     }
 }
 
@@ -203,9 +139,9 @@ fn the_smallest_inputs() {
     let input = Annotated { annotation: Vec::new(), filters: Vec::new(), ..Annotated::worked() };
     for kind in [1, 2, 3, 4, 5] {
         let query = entry(kind, 0, 0, 0);
-        let table = rewritten(&[], &[], &query, ROOM).expect("it is not refused");
+        let table = rewritten(&[], &[], &query, REWRITE_ROOM).expect("it is not refused");
         assert_eq!(table.len() / 6, 60);
-        reached(&input, &query, &table);
+        rewritten_reaches(&input, &query, &table);
     }
-    assert_eq!(rewritten(&[], &[], &[], ROOM), Err(Reply::Refused { number: 12, place: 0 }));
+    assert_eq!(rewritten(&[], &[], &[], REWRITE_ROOM), Err(Reply::Refused { number: 12, place: 0 }));
 }

@@ -1,0 +1,381 @@
+//! Inputs of each call drawn by chance: small ones and such that come up to the limits, as they grow or damaged, in rooms of all lengths.
+
+use second::table::{read_filters, Limits, CURATORS_QUERY, ENTRY_BYTES, FILTER_TABLE, QUERY_ON_ROLL};
+
+use crate::annotated::Annotated;
+use crate::chance::Chance;
+use crate::damage::{break_annotation, break_roll, break_table};
+use crate::records::{chain, grown_roll, wide, MOST_NODES};
+use crate::same::{self, BITMAP_ROOM, REWRITE_ROOM, TEXT_ROOM};
+use crate::seen::{outcome, Kind, Seen};
+use crate::tables::{Table, LABELS};
+use crate::texts::some_text;
+
+/// A call with the draw of one input, and the outcomes that draws have to reach.
+pub struct Call {
+    pub number: u8,
+    draw: fn(&mut Chance, &mut Seen),
+    pub expected: &'static [&'static [Kind]],
+}
+
+/// How many inputs of each call the tests draw, and how often each outcome must come among them.
+pub const INPUTS: u64 = 50_000;
+pub const LEAST: usize = 20;
+
+impl Call {
+    /// Draws some inputs of a run. Each has its own chance, so that one of them can be drawn again alone.
+    pub fn draw(&self, seed: u64, inputs: std::ops::Range<u64>, seen: &mut Seen) {
+        for input in inputs {
+            let _told = Told { call: self.number, seed, input };
+            (self.draw)(&mut Chance::of(seed.wrapping_add(u64::from(self.number) << 56), input), seen);
+        }
+    }
+
+    /// What is amiss with the outcomes of a run: those that came less often than this, and those that no call of this number has.
+    pub fn amiss(&self, seen: &Seen, least: usize) -> Vec<String> {
+        seen.amiss(&self.expected.concat(), least)
+    }
+}
+
+/// Says which input was being drawn when a check failed.
+struct Told {
+    call: u8,
+    seed: u64,
+    input: u64,
+}
+
+impl Drop for Told {
+    fn drop(&mut self) {
+        if std::thread::panicking() {
+            eprintln!("call {}, seed {}, input {}", self.call, self.seed, self.input);
+        }
+    }
+}
+
+const OF_ROOM: &[Kind] = &[(1, "the room")];
+const OF_ROLL: &[Kind] = &[
+    (2, "the roll's length"),
+    (3, "a record"),
+    (3, "a late record"),
+    (4, "a record"),
+    (4, "a late record"),
+    (5, "a record"),
+    (5, "a late record"),
+];
+const OF_FILTERS: &[Kind] = &[
+    (7, "the filters' length"),
+    (8, "a filter entry"),
+    (8, "a late filter entry"),
+    (9, "a filter entry"),
+    (9, "a late filter entry"),
+];
+const OF_ANNOTATION: &[Kind] = &[
+    (6, "the annotation's length"),
+    (10, "an annotation record"),
+    (10, "a late annotation record"),
+    (11, "an annotation record"),
+    (11, "a late annotation record"),
+];
+const OF_QUERY: &[Kind] = &[
+    (8, "a query entry"),
+    (8, "a late query entry"),
+    (9, "a query entry"),
+    (9, "a late query entry"),
+    (12, "the query's length"),
+    (12, "the last query entry"),
+    (12, "the last query entry, a late one"),
+];
+const OF_TEXT: &[Kind] = &[
+    (13, "the text's length"),
+    (14, "a byte"),
+    (14, "a late byte"),
+    (14, "the end"),
+    (14, "a late end"),
+    (15, "a byte"),
+    (15, "a late byte"),
+    (16, "the text"),
+    (16, "a long text"),
+    (0, "a text"),
+    (0, "a long text"),
+    (0, "a text of many entries"),
+];
+const OF_ANSWERS: &[Kind] = &[
+    (0, "no node"),
+    (0, "one node"),
+    (0, "several nodes"),
+    (0, "few nodes of a great roll"),
+    (0, "many nodes of a great roll"),
+];
+/// Of call 6: the view makes a difference.
+const OF_VIEWS: &[Kind] = &[(0, "as on the roll"), (0, "other than on the roll")];
+const OF_RUNS: &[Kind] = &[
+    (0, "the whole roll"),
+    (0, "a part of it"),
+    (0, "the record alone"),
+    (0, "nothing, of a bad roll"),
+    (0, "nothing, no such record"),
+];
+
+pub const CALLS: [Call; 7] = [
+    Call { number: 1, draw: check_roll, expected: &[OF_ROLL, &[(0, "nodes"), (0, "4,096 nodes")]] },
+    Call { number: 2, draw: read_text, expected: &[OF_ROOM, OF_TEXT] },
+    Call { number: 3, draw: answer_on_roll, expected: &[OF_ROOM, OF_ROLL, OF_QUERY, OF_ANSWERS] },
+    Call {
+        number: 4,
+        draw: cut_view,
+        expected: &[
+            OF_ROOM,
+            OF_ROLL,
+            OF_FILTERS,
+            OF_ANNOTATION,
+            &[(0, "all nodes"), (0, "some nodes"), (0, "all nodes of a great roll"), (0, "some nodes of a great roll")],
+        ],
+    },
+    Call {
+        number: 5,
+        draw: rewrite,
+        expected: &[
+            OF_ROOM,
+            OF_FILTERS,
+            OF_ANNOTATION,
+            OF_QUERY,
+            &[(0, "it leads somewhere"), (0, "it leads nowhere")],
+        ],
+    },
+    Call {
+        number: 6,
+        draw: curators_answer,
+        expected: &[OF_ROOM, OF_ROLL, OF_FILTERS, OF_ANNOTATION, OF_QUERY, OF_ANSWERS, OF_VIEWS],
+    },
+    Call { number: 7, draw: run_of_record, expected: &[OF_RUNS] },
+];
+
+/// A roll of few nodes, of some hundred, or of about as many as there may be; and whether it is one of these. A chain is no longer than
+/// said: what takes a round for each level takes long on it.
+fn some_roll(chance: &mut Chance, labels: usize, longest_chain: usize) -> (Vec<u8>, bool) {
+    let size = match chance.below(16) {
+        0 => MOST_NODES - chance.below(4),
+        1 => 25 + chance.below(200),
+        _ => 1 + chance.below(24),
+    };
+    let roll = match chance.below(8) {
+        0 if size <= longest_chain => chain(size),
+        1 => wide(size),
+        _ => grown_roll(chance, size, labels),
+    };
+    (roll, size > 1000)
+}
+
+/// Whether an input is to be damaged; a great one mostly, since it takes long otherwise.
+fn to_break(chance: &mut Chance, great: bool) -> bool {
+    chance.below(8) < if great { 6 } else { 5 }
+}
+
+/// A room of the length named, short by one or more, or longer.
+fn some_room(chance: &mut Chance, named: usize) -> usize {
+    match chance.below(32) {
+        0 => named.saturating_sub(1),
+        1 => chance.below(named + 1),
+        2..=11 => named + 1 + chance.below(40),
+        _ => named,
+    }
+}
+
+fn note_roll(seen: &mut Seen, (number, place): (u8, usize)) {
+    match number {
+        1 => seen.note(1, "the room"),
+        2 => seen.note(2, "the roll's length"),
+        _ => seen.note_place(number, place, 4000, ["a record", "a late record"]),
+    }
+}
+
+/// A refusal of the filters or the annotation, of which the former are looked at first.
+fn note_annotated(seen: &mut Seen, (number, place): (u8, usize)) {
+    match number {
+        6 => seen.note(6, "the annotation's length"),
+        7 => seen.note(7, "the filters' length"),
+        8 | 9 => seen.note_place(number, place, 200, ["a filter entry", "a late filter entry"]),
+        10 | 11 => seen.note_place(number, place, 25, ["an annotation record", "a late annotation record"]),
+        _ => note_roll(seen, (number, place)),
+    }
+}
+
+fn note_query(seen: &mut Seen, (number, place): (u8, usize), query: &[u8], limits: Limits) {
+    let late = limits.entries * 3 / 4;
+    let bad_length = query.is_empty() || query.len() % ENTRY_BYTES > 0 || query.len() > limits.entries * ENTRY_BYTES;
+    match number {
+        12 if bad_length => seen.note(12, "the query's length"),
+        12 => seen.note_place(12, place, late, ["the last query entry", "the last query entry, a late one"]),
+        _ => seen.note_place(number, place, late, ["a query entry", "a late query entry"]),
+    }
+}
+
+fn check_roll(chance: &mut Chance, seen: &mut Seen) {
+    let (mut roll, _) = some_roll(chance, 64, MOST_NODES);
+    for _ in 0..chance.below(3) {
+        break_roll(chance, &mut roll);
+    }
+    match outcome(same::check_roll(&roll)) {
+        Err(refused) => note_roll(seen, refused),
+        Ok(nodes) => seen.note(0, if nodes == MOST_NODES { "4,096 nodes" } else { "nodes" }),
+    }
+}
+
+fn run_of_record(chance: &mut Chance, seen: &mut Seen) {
+    let (mut roll, _) = some_roll(chance, 64, MOST_NODES);
+    if chance.one_in(4) {
+        break_roll(chance, &mut roll);
+    }
+    let nodes = roll.len() / 4;
+    let record = match chance.below(8) {
+        0 => chance.pick(&[nodes, nodes + 1, 4096, 65_535, 65_536, usize::MAX / 4 + 1, usize::MAX]),
+        _ => chance.below(nodes + 1),
+    };
+    let run = same::run_of_record(&roll, record).len();
+    let bad = outcome(second::check_roll(&roll)).is_err();
+    seen.note(
+        0,
+        match run {
+            0 if bad => "nothing, of a bad roll",
+            0 => "nothing, no such record",
+            run if run == roll.len() => "the whole roll",
+            4 => "the record alone",
+            _ => "a part of it",
+        },
+    );
+}
+
+fn read_text(chance: &mut Chance, seen: &mut Seen) {
+    let text = some_text(chance);
+    let room = some_room(chance, TEXT_ROOM);
+    let long = text.len() >= 500;
+    match outcome(same::read_text(&text, room).0) {
+        Err((1, _)) => seen.note(1, "the room"),
+        Err((13, _)) => seen.note(13, "the text's length"),
+        Err((14, place)) if place == text.len() => seen.note_place(14, place, 500, ["the end", "a late end"]),
+        Err((16, _)) => seen.note(16, if long { "a long text" } else { "the text" }),
+        Err((number, place)) => seen.note_place(number, place, 500, ["a byte", "a late byte"]),
+        Ok(entries) if entries > 200 => seen.note(0, "a text of many entries"),
+        Ok(_) => seen.note(0, if long { "a long text" } else { "a text" }),
+    }
+}
+
+/// A query within limits, small or great, which unfolds to no more than said.
+fn some_query(chance: &mut Chance, limits: Limits, largest: usize) -> Vec<u8> {
+    if chance.one_in(12) {
+        return Table::greatest(chance, limits, largest).bytes;
+    }
+    let tries = 1 + chance.below(16);
+    Table::within(limits.height.min(30), largest).grown(chance, tries).ended(chance).bytes
+}
+
+fn answer_on_roll(chance: &mut Chance, seen: &mut Seen) {
+    let (mut roll, great) = some_roll(chance, LABELS, MOST_NODES);
+    let mut query = some_query(chance, QUERY_ON_ROLL, 300);
+    if to_break(chance, great) {
+        for _ in 0..1 + chance.below(2) {
+            match chance.below(2) {
+                0 => break_roll(chance, &mut roll),
+                _ => break_table(chance, &mut query, QUERY_ON_ROLL),
+            }
+        }
+    }
+    match outcome(same::answer_on_roll(&roll, &query, some_room(chance, BITMAP_ROOM)).0) {
+        Err(refused) if refused.0 < 6 => note_roll(seen, refused),
+        Err(refused) => note_query(seen, refused, &query, QUERY_ON_ROLL),
+        Ok(count) => seen.note_answer(count, great),
+    }
+}
+
+/// A roll with its annotation and filters, small or great.
+fn some_annotated(chance: &mut Chance, most: usize) -> Annotated {
+    if chance.one_in(12) {
+        Annotated::greatest(chance, most)
+    } else {
+        Annotated::grown(chance, most)
+    }
+}
+
+/// Damage to filters or annotation.
+fn break_annotated(chance: &mut Chance, input: &mut Annotated) {
+    match chance.below(2) {
+        0 => break_annotation(chance, &mut input.annotation),
+        _ => break_table(chance, &mut input.filters, FILTER_TABLE),
+    }
+}
+
+fn cut_view(chance: &mut Chance, seen: &mut Seen) {
+    let (roll, great) = some_roll(chance, LABELS, MOST_NODES);
+    let mut input = Annotated { roll, ..some_annotated(chance, 1) };
+    if to_break(chance, great) {
+        for _ in 0..1 + chance.below(2) {
+            match chance.below(3) {
+                0 => break_roll(chance, &mut input.roll),
+                _ => break_annotated(chance, &mut input),
+            }
+        }
+    }
+    let size = input.roll.len();
+    match outcome(same::cut_view(&input, some_room(chance, size)).0) {
+        Err(refused) => note_annotated(seen, refused),
+        Ok(nodes) if great => {
+            seen.note(0, ["some nodes of a great roll", "all nodes of a great roll"][usize::from(nodes == size / 4)])
+        }
+        Ok(nodes) => seen.note(0, ["some nodes", "all nodes"][usize::from(nodes == size / 4)]),
+    }
+}
+
+fn rewrite(chance: &mut Chance, seen: &mut Seen) {
+    let mut input = some_annotated(chance, 12);
+    let mut query = some_query(chance, CURATORS_QUERY, 100);
+    if to_break(chance, false) {
+        for _ in 0..1 + chance.below(2) {
+            match chance.below(3) {
+                0 => break_table(chance, &mut query, CURATORS_QUERY),
+                _ => break_annotated(chance, &mut input),
+            }
+        }
+    }
+    let (reply, table) = same::rewrite(&input.annotation, &input.filters, &query, some_room(chance, REWRITE_ROOM));
+    match outcome(reply) {
+        Err(refused) => note_asked(seen, refused, &input, &query),
+        Ok(_) => {
+            let reached = same::rewritten_reaches(&input, &query, &table);
+            seen.note(0, if reached > 0 { "it leads somewhere" } else { "it leads nowhere" });
+        }
+    }
+}
+
+/// A refusal of a call that takes an annotation and a curator's query. 8 and 9 are the filters' if these are not in order.
+fn note_asked(seen: &mut Seen, refused: (u8, usize), input: &Annotated, query: &[u8]) {
+    match refused.0 {
+        8 | 9 if read_filters(&input.filters).is_ok() => note_query(seen, refused, query, CURATORS_QUERY),
+        12 => note_query(seen, refused, query, CURATORS_QUERY),
+        _ => note_annotated(seen, refused),
+    }
+}
+
+fn curators_answer(chance: &mut Chance, seen: &mut Seen) {
+    let (roll, great) = some_roll(chance, LABELS, 200);
+    let mut input = Annotated { roll, ..some_annotated(chance, 1) };
+    let mut query = some_query(chance, CURATORS_QUERY, 40);
+    if to_break(chance, great) {
+        for _ in 0..1 + chance.below(2) {
+            match chance.below(4) {
+                0 => break_table(chance, &mut query, CURATORS_QUERY),
+                1 => break_roll(chance, &mut input.roll),
+                _ => break_annotated(chance, &mut input),
+            }
+        }
+    }
+    let (reply, bitmap) = same::curators_answer(&input, &query, some_room(chance, BITMAP_ROOM));
+    match outcome(reply) {
+        Err(refused) => note_asked(seen, refused, &input, &query),
+        Ok(count) => {
+            seen.note_answer(count, great);
+            let mut on_roll = [0; BITMAP_ROOM];
+            crate::answer_on_roll(&input.roll, &query, &mut on_roll);
+            seen.note(0, if bitmap == on_roll { "as on the roll" } else { "other than on the roll" });
+        }
+    }
+}
