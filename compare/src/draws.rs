@@ -326,7 +326,8 @@ fn cut_view(chance: &mut Chance, seen: &mut Seen) {
 }
 
 fn rewrite(chance: &mut Chance, seen: &mut Seen) {
-    let mut input = some_annotated(chance, 12);
+    let most = if chance.one_in(32) { 60 } else { 12 };
+    let mut input = some_annotated(chance, most);
     let mut query = some_query(chance, CURATORS_QUERY, 100);
     if to_break(chance, false) {
         for _ in 0..1 + chance.below(2) {
