@@ -33,13 +33,18 @@ fn some_record(chance: &mut Chance, records: usize) -> usize {
     }
 }
 
-/// A length that is none for records of this size: some bytes too many or too few, nothing at all, or one record more than there may be.
+/// A length that is none for records of this size: some bytes too many or too few, nothing at all, or one record more than there may be,
+/// with nothing else amiss where this record may follow any other.
 fn break_length(chance: &mut Chance, bytes: &mut Vec<u8>, record: &[u8], most: usize) {
     match chance.below(4) {
         0 => bytes.extend(&record[..1 + chance.below(record.len() - 1)]),
         1 => bytes.truncate(bytes.len().saturating_sub(1 + chance.below(record.len() - 1))),
         2 => bytes.clear(),
-        _ => bytes.resize_with((most + 1 + chance.below(2)) * record.len(), || 1),
+        _ => {
+            let there = bytes.len() / record.len();
+            bytes.truncate(there * record.len());
+            bytes.extend(record.repeat((most + 1).saturating_sub(there)));
+        }
     }
 }
 

@@ -1,10 +1,11 @@
 //! Inputs of each call drawn by chance: small ones and such that come up to the limits, as they grow or damaged, in rooms of all lengths.
 
-use second::table::{read_filters, Limits, CURATORS_QUERY, ENTRY_BYTES, FILTER_TABLE, QUERY_ON_ROLL};
+use second::table::{Limits, CURATORS_QUERY, FILTER_TABLE, QUERY_ON_ROLL};
 
 use crate::annotated::Annotated;
 use crate::chance::Chance;
 use crate::damage::{break_annotation, break_roll, break_table};
+use crate::outcomes::*;
 use crate::records::{chain, grown_roll, wide, MOST_NODES};
 use crate::same::{self, BITMAP_ROOM, REWRITE_ROOM, TEXT_ROOM};
 use crate::seen::{outcome, Kind, Seen};
@@ -52,84 +53,14 @@ impl Drop for Told {
     }
 }
 
-const OF_ROOM: &[Kind] = &[(1, "the room")];
-const OF_ROLL: &[Kind] = &[
-    (2, "the roll's length"),
-    (3, "a record"),
-    (3, "a late record"),
-    (4, "a record"),
-    (4, "a late record"),
-    (5, "a record"),
-    (5, "a late record"),
-];
-const OF_FILTERS: &[Kind] = &[
-    (7, "the filters' length"),
-    (8, "a filter entry"),
-    (8, "a late filter entry"),
-    (9, "a filter entry"),
-    (9, "a late filter entry"),
-];
-const OF_ANNOTATION: &[Kind] = &[
-    (6, "the annotation's length"),
-    (10, "an annotation record"),
-    (10, "a late annotation record"),
-    (11, "an annotation record"),
-    (11, "a late annotation record"),
-];
-const OF_QUERY: &[Kind] = &[
-    (8, "a query entry"),
-    (8, "a late query entry"),
-    (9, "a query entry"),
-    (9, "a late query entry"),
-    (12, "the query's length"),
-    (12, "the last query entry"),
-    (12, "the last query entry, a late one"),
-];
-const OF_TEXT: &[Kind] = &[
-    (13, "the text's length"),
-    (14, "a byte"),
-    (14, "a late byte"),
-    (14, "the end"),
-    (14, "a late end"),
-    (15, "a byte"),
-    (15, "a late byte"),
-    (16, "the text"),
-    (16, "a long text"),
-    (0, "a text"),
-    (0, "a long text"),
-    (0, "a text of many entries"),
-];
-const OF_ANSWERS: &[Kind] = &[
-    (0, "no node"),
-    (0, "one node"),
-    (0, "several nodes"),
-    (0, "few nodes of a great roll"),
-    (0, "many nodes of a great roll"),
-];
-/// Of call 6: the view makes a difference.
-const OF_VIEWS: &[Kind] = &[(0, "as on the roll"), (0, "other than on the roll")];
-const OF_RUNS: &[Kind] = &[
-    (0, "the whole roll"),
-    (0, "a part of it"),
-    (0, "the record alone"),
-    (0, "nothing, of a bad roll"),
-    (0, "nothing, no such record"),
-];
-
 pub const CALLS: [Call; 7] = [
     Call { number: 1, draw: check_roll, expected: &[OF_ROLL, &[(0, "nodes"), (0, "4,096 nodes")]] },
     Call { number: 2, draw: read_text, expected: &[OF_ROOM, OF_TEXT] },
-    Call { number: 3, draw: answer_on_roll, expected: &[OF_ROOM, OF_ROLL, OF_QUERY, OF_ANSWERS] },
+    Call { number: 3, draw: answer_on_roll, expected: &[OF_ROOM, OF_ROLL, OF_QUERY, OF_ANSWERS, OF_GREATEST_QUERIES] },
     Call {
         number: 4,
         draw: cut_view,
-        expected: &[
-            OF_ROOM,
-            OF_ROLL,
-            OF_FILTERS,
-            OF_ANNOTATION,
-            &[(0, "all nodes"), (0, "some nodes"), (0, "all nodes of a great roll"), (0, "some nodes of a great roll")],
-        ],
+        expected: &[OF_ROOM, OF_ROLL, OF_FILTERS, OF_ANNOTATION, OF_VIEWED, OF_GREATEST_ANNOTATIONS],
     },
     Call {
         number: 5,
@@ -139,13 +70,25 @@ pub const CALLS: [Call; 7] = [
             OF_FILTERS,
             OF_ANNOTATION,
             OF_QUERY,
-            &[(0, "it leads somewhere"), (0, "it leads nowhere")],
+            OF_REWRITTEN,
+            OF_GREATEST_ANNOTATIONS,
+            OF_GREATEST_QUERIES,
         ],
     },
     Call {
         number: 6,
         draw: curators_answer,
-        expected: &[OF_ROOM, OF_ROLL, OF_FILTERS, OF_ANNOTATION, OF_QUERY, OF_ANSWERS, OF_VIEWS],
+        expected: &[
+            OF_ROOM,
+            OF_ROLL,
+            OF_FILTERS,
+            OF_ANNOTATION,
+            OF_QUERY,
+            OF_ANSWERS,
+            OF_VIEWS,
+            OF_GREATEST_ANNOTATIONS,
+            OF_GREATEST_QUERIES,
+        ],
     },
     Call { number: 7, draw: run_of_record, expected: &[OF_RUNS] },
 ];
@@ -178,35 +121,6 @@ fn some_room(chance: &mut Chance, named: usize) -> usize {
         1 => chance.below(named + 1),
         2..=11 => named + 1 + chance.below(40),
         _ => named,
-    }
-}
-
-fn note_roll(seen: &mut Seen, (number, place): (u8, usize)) {
-    match number {
-        1 => seen.note(1, "the room"),
-        2 => seen.note(2, "the roll's length"),
-        _ => seen.note_place(number, place, 4000, ["a record", "a late record"]),
-    }
-}
-
-/// A refusal of the filters or the annotation, of which the former are looked at first.
-fn note_annotated(seen: &mut Seen, (number, place): (u8, usize)) {
-    match number {
-        6 => seen.note(6, "the annotation's length"),
-        7 => seen.note(7, "the filters' length"),
-        8 | 9 => seen.note_place(number, place, 200, ["a filter entry", "a late filter entry"]),
-        10 | 11 => seen.note_place(number, place, 25, ["an annotation record", "a late annotation record"]),
-        _ => note_roll(seen, (number, place)),
-    }
-}
-
-fn note_query(seen: &mut Seen, (number, place): (u8, usize), query: &[u8], limits: Limits) {
-    let late = limits.entries * 3 / 4;
-    let bad_length = query.is_empty() || query.len() % ENTRY_BYTES > 0 || query.len() > limits.entries * ENTRY_BYTES;
-    match number {
-        12 if bad_length => seen.note(12, "the query's length"),
-        12 => seen.note_place(12, place, late, ["the last query entry", "the last query entry, a late one"]),
-        _ => seen.note_place(number, place, late, ["a query entry", "a late query entry"]),
     }
 }
 
@@ -248,16 +162,7 @@ fn run_of_record(chance: &mut Chance, seen: &mut Seen) {
 fn read_text(chance: &mut Chance, seen: &mut Seen) {
     let text = some_text(chance);
     let room = some_room(chance, TEXT_ROOM);
-    let long = text.len() >= 500;
-    match outcome(same::read_text(&text, room).0) {
-        Err((1, _)) => seen.note(1, "the room"),
-        Err((13, _)) => seen.note(13, "the text's length"),
-        Err((14, place)) if place == text.len() => seen.note_place(14, place, 500, ["the end", "a late end"]),
-        Err((16, _)) => seen.note(16, if long { "a long text" } else { "the text" }),
-        Err((number, place)) => seen.note_place(number, place, 500, ["a byte", "a late byte"]),
-        Ok(entries) if entries > 200 => seen.note(0, "a text of many entries"),
-        Ok(_) => seen.note(0, if long { "a long text" } else { "a text" }),
-    }
+    note_text(seen, same::read_text(&text, room).0, text.len());
 }
 
 /// A query within limits, small or great, which unfolds to no more than said.
@@ -283,7 +188,10 @@ fn answer_on_roll(chance: &mut Chance, seen: &mut Seen) {
     match outcome(same::answer_on_roll(&roll, &query, some_room(chance, BITMAP_ROOM)).0) {
         Err(refused) if refused.0 < 6 => note_roll(seen, refused),
         Err(refused) => note_query(seen, refused, &query, QUERY_ON_ROLL),
-        Ok(count) => seen.note_answer(count, great),
+        Ok(count) => {
+            note_answer(seen, count, great);
+            note_greatest_query(seen, &query, QUERY_ON_ROLL);
+        }
     }
 }
 
@@ -318,10 +226,10 @@ fn cut_view(chance: &mut Chance, seen: &mut Seen) {
     let size = input.roll.len();
     match outcome(same::cut_view(&input, some_room(chance, size)).0) {
         Err(refused) => note_annotated(seen, refused),
-        Ok(nodes) if great => {
-            seen.note(0, ["some nodes of a great roll", "all nodes of a great roll"][usize::from(nodes == size / 4)])
+        Ok(nodes) => {
+            note_view(seen, nodes == size / 4, great);
+            note_greatest_annotation(seen, &input);
         }
-        Ok(nodes) => seen.note(0, ["some nodes", "all nodes"][usize::from(nodes == size / 4)]),
     }
 }
 
@@ -343,16 +251,9 @@ fn rewrite(chance: &mut Chance, seen: &mut Seen) {
         Ok(_) => {
             let reached = same::rewritten_reaches(&input, &query, &table);
             seen.note(0, if reached > 0 { "it leads somewhere" } else { "it leads nowhere" });
+            note_greatest_annotation(seen, &input);
+            note_greatest_query(seen, &query, CURATORS_QUERY);
         }
-    }
-}
-
-/// A refusal of a call that takes an annotation and a curator's query. 8 and 9 are the filters' if these are not in order.
-fn note_asked(seen: &mut Seen, refused: (u8, usize), input: &Annotated, query: &[u8]) {
-    match refused.0 {
-        8 | 9 if read_filters(&input.filters).is_ok() => note_query(seen, refused, query, CURATORS_QUERY),
-        12 => note_query(seen, refused, query, CURATORS_QUERY),
-        _ => note_annotated(seen, refused),
     }
 }
 
@@ -373,7 +274,9 @@ fn curators_answer(chance: &mut Chance, seen: &mut Seen) {
     match outcome(reply) {
         Err(refused) => note_asked(seen, refused, &input, &query),
         Ok(count) => {
-            seen.note_answer(count, great);
+            note_answer(seen, count, great);
+            note_greatest_annotation(seen, &input);
+            note_greatest_query(seen, &query, CURATORS_QUERY);
             let mut on_roll = [0; BITMAP_ROOM];
             crate::answer_on_roll(&input.roll, &query, &mut on_roll);
             seen.note(0, if bitmap == on_roll { "as on the roll" } else { "other than on the roll" });

@@ -5,6 +5,7 @@ pub mod annotated;
 pub mod chance;
 pub mod damage;
 pub mod draws;
+pub mod outcomes;
 pub mod records;
 pub mod same;
 pub mod seen;

@@ -41,10 +41,13 @@ fn written((reply, mut lent): Outcome, bytes: impl Fn(usize) -> usize, shown: &i
     (reply, lent)
 }
 
-/// Inputs for an error message, one call of the second program's `calls` on a line.
+/// A call for an error message, as the second program's `calls` takes it; call 1 has no number behind its input.
 fn line(call: u8, inputs: &[&[u8]], number: usize) -> String {
-    let words: Vec<String> = inputs.iter().map(|bytes| to_hex(bytes)).collect();
-    format!("{call} {} {number}", words.join(" "))
+    let inputs: String = inputs.iter().map(|bytes| format!(" {}", to_hex(bytes))).collect();
+    match call {
+        1 => format!("1{inputs}"),
+        _ => format!("{call}{inputs} {number}"),
+    }
 }
 
 /// Both programs on the same inputs, which neither changes.

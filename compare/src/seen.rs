@@ -17,18 +17,9 @@ impl Seen {
         *self.0.entry((number, of)).or_default() += 1;
     }
 
-    /// A refusal whose place is early or, from this place on, late.
+    /// An outcome at a place that is early or, from this one on, late.
     pub fn note_place(&mut self, number: u8, place: usize, from: usize, [early, late]: [&'static str; 2]) {
         self.note(number, if place < from { early } else { late });
-    }
-
-    /// A bitmap's count.
-    pub fn note_answer(&mut self, count: usize, great: bool) {
-        if great {
-            self.note(0, if count < 1000 { "few nodes of a great roll" } else { "many nodes of a great roll" });
-        } else {
-            self.note(0, ["no node", "one node", "several nodes"][count.min(2)]);
-        }
     }
 
     /// The outcomes that came less often than they should, and those that should not come at all.

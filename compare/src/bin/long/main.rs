@@ -1,6 +1,8 @@
 //! The draws of the tests, from any seed and in any number: `long SEED COUNT [CALL ..]` draws so many inputs of each call, or of those
-//! named. It ends with an error at the first difference between the two programs, which it shows.
+//! named; for COUNT there may stand the numbers of the inputs, FIRST..END. It ends with an error at the first difference between the two
+//! programs, which it shows.
 
+use std::ops::Range;
 use std::process::ExitCode;
 use std::time::Instant;
 
@@ -11,15 +13,15 @@ use compare::seen::Seen;
 const STRETCH: u64 = 10_000;
 
 /// Draws inputs of one call, says how far it has come, and shows what it has seen. Says whether all is as it should be.
-fn run(call: &Call, seed: u64, count: u64) -> bool {
+fn run(call: &Call, seed: u64, inputs: &Range<u64>) -> bool {
     let (start, mut seen) = (Instant::now(), Seen::default());
-    for first in (0..count).step_by(STRETCH as usize) {
-        let end = count.min(first + STRETCH);
+    for first in inputs.clone().step_by(STRETCH as usize) {
+        let end = inputs.end.min(first + STRETCH);
         call.draw(seed, first..end, &mut seen);
-        println!("call {}: {end} of {count} inputs, {:.1} s", call.number, start.elapsed().as_secs_f64());
+        println!("call {}: {end} of {} inputs, {:.1} s", call.number, inputs.end, start.elapsed().as_secs_f64());
     }
     // A run shorter than the tests' cannot be asked for every outcome, but for none that is strange.
-    let least = if count < INPUTS { 0 } else { LEAST };
+    let least = if inputs.end - inputs.start < INPUTS { 0 } else { LEAST };
     let amiss = call.amiss(&seen, least);
     print!("{seen}");
     for line in &amiss {
@@ -28,14 +30,30 @@ fn run(call: &Call, seed: u64, count: u64) -> bool {
     amiss.is_empty()
 }
 
+/// The numbers of the inputs: from 0 to a count, or those that are given.
+fn numbers(word: &str) -> Option<Range<u64>> {
+    match word.split_once("..") {
+        Some((first, end)) => Some(first.parse().ok()?..end.parse().ok()?).filter(|range| range.start <= range.end),
+        None => Some(0..word.parse().ok()?),
+    }
+}
+
+/// Seed, inputs and the numbers of calls, none for all.
+fn asked(words: &[String]) -> Option<(u64, Range<u64>, Vec<u8>)> {
+    let [seed, inputs, calls @ ..] = words else { return None };
+    let calls: Option<Vec<u8>> = calls.iter().map(|word| word.parse().ok()).collect();
+    let calls = calls.filter(|calls| calls.iter().all(|number| (1..=7).contains(number)))?;
+    Some((seed.parse().ok()?, numbers(inputs)?, calls))
+}
+
 fn main() -> ExitCode {
-    let numbers: Option<Vec<u64>> = std::env::args().skip(1).map(|word| word.parse().ok()).collect();
-    let Some([seed, count, named @ ..]) = numbers.as_deref() else {
-        eprintln!("usage: long SEED COUNT [CALL ..]");
+    let words: Vec<String> = std::env::args().skip(1).collect();
+    let Some((seed, inputs, named)) = asked(&words) else {
+        eprintln!("usage: long SEED COUNT|FIRST..END [CALL ..]");
         return ExitCode::from(2);
     };
-    let wanted = |call: &&Call| named.is_empty() || named.contains(&u64::from(call.number));
-    let amiss = CALLS.iter().filter(wanted).filter(|call| !run(call, *seed, *count)).count();
+    let wanted = |call: &&Call| named.is_empty() || named.contains(&call.number);
+    let amiss = CALLS.iter().filter(wanted).filter(|call| !run(call, seed, &inputs)).count();
     if amiss == 0 {
         ExitCode::SUCCESS
     } else {

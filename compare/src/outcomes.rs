@@ -1,0 +1,170 @@
+//! The outcomes that each call's draws have to reach, and which of them a reply is.
+
+use second::table::{heights, read_filters, read_query, Limits, CURATORS_QUERY, ENTRY_BYTES, FILTER_TABLE};
+use second::Reply;
+
+use crate::annotated::Annotated;
+use crate::seen::{outcome, Kind, Seen};
+
+pub const OF_ROOM: &[Kind] = &[(1, "the room")];
+pub const OF_ROLL: &[Kind] = &[
+    (2, "the roll's length"),
+    (3, "a record"),
+    (3, "a late record"),
+    (4, "a record"),
+    (4, "a late record"),
+    (5, "a record"),
+    (5, "a late record"),
+];
+pub const OF_FILTERS: &[Kind] = &[
+    (7, "the filters' length"),
+    (8, "a filter entry"),
+    (8, "a late filter entry"),
+    (9, "a filter entry"),
+    (9, "a late filter entry"),
+];
+pub const OF_ANNOTATION: &[Kind] = &[
+    (6, "the annotation's length"),
+    (10, "an annotation record"),
+    (10, "a late annotation record"),
+    (11, "an annotation record"),
+    (11, "a late annotation record"),
+];
+pub const OF_QUERY: &[Kind] = &[
+    (8, "a query entry"),
+    (8, "a late query entry"),
+    (9, "a query entry"),
+    (9, "a late query entry"),
+    (12, "the query's length"),
+    (12, "the last query entry"),
+    (12, "the last query entry, a late one"),
+];
+pub const OF_TEXT: &[Kind] = &[
+    (13, "the text's length"),
+    (14, "a byte"),
+    (14, "a late byte"),
+    (14, "the end"),
+    (14, "a late end"),
+    (15, "a byte"),
+    (15, "a late byte"),
+    (16, "the text"),
+    (16, "a long text"),
+    (0, "a text"),
+    (0, "a long text"),
+    (0, "a text of many entries"),
+];
+pub const OF_ANSWERS: &[Kind] = &[
+    (0, "no node"),
+    (0, "one node"),
+    (0, "several nodes"),
+    (0, "few nodes of a great roll"),
+    (0, "many nodes of a great roll"),
+];
+/// Accepted inputs that are as large as they may be.
+pub const OF_GREATEST_QUERIES: &[Kind] = &[(0, "the most query entries"), (0, "the highest query")];
+pub const OF_GREATEST_ANNOTATIONS: &[Kind] =
+    &[(0, "the most filter entries"), (0, "the highest filters"), (0, "the most records")];
+/// Of call 6: the view makes a difference.
+pub const OF_VIEWS: &[Kind] = &[(0, "as on the roll"), (0, "other than on the roll")];
+pub const OF_VIEWED: &[Kind] =
+    &[(0, "all nodes"), (0, "some nodes"), (0, "all nodes of a great roll"), (0, "some nodes of a great roll")];
+pub const OF_REWRITTEN: &[Kind] = &[(0, "it leads somewhere"), (0, "it leads nowhere")];
+pub const OF_RUNS: &[Kind] = &[
+    (0, "the whole roll"),
+    (0, "a part of it"),
+    (0, "the record alone"),
+    (0, "nothing, of a bad roll"),
+    (0, "nothing, no such record"),
+];
+
+/// What a text of so many bytes came to.
+pub fn note_text(seen: &mut Seen, reply: Reply, length: usize) {
+    let late = 500;
+    match outcome(reply) {
+        Err((1, _)) => seen.note(1, "the room"),
+        Err((13, _)) => seen.note(13, "the text's length"),
+        Err((14, place)) if place == length => seen.note_place(14, place, late, ["the end", "a late end"]),
+        Err((16, _)) => seen.note_place(16, length, late, ["the text", "a long text"]),
+        Err((number, place)) => seen.note_place(number, place, late, ["a byte", "a late byte"]),
+        Ok(entries) if entries > 200 => seen.note(0, "a text of many entries"),
+        Ok(_) => seen.note_place(0, length, late, ["a text", "a long text"]),
+    }
+}
+
+/// A bitmap's count.
+pub fn note_answer(seen: &mut Seen, count: usize, great: bool) {
+    if great {
+        seen.note(0, if count < 1000 { "few nodes of a great roll" } else { "many nodes of a great roll" });
+    } else {
+        seen.note(0, ["no node", "one node", "several nodes"][count.min(2)]);
+    }
+}
+
+/// A view of all nodes or of some.
+pub fn note_view(seen: &mut Seen, all: bool, great: bool) {
+    let kinds = [["some nodes", "some nodes of a great roll"], ["all nodes", "all nodes of a great roll"]];
+    seen.note(0, kinds[usize::from(all)][usize::from(great)]);
+}
+
+pub fn note_roll(seen: &mut Seen, (number, place): (u8, usize)) {
+    match number {
+        1 => seen.note(1, "the room"),
+        2 => seen.note(2, "the roll's length"),
+        _ => seen.note_place(number, place, 4000, ["a record", "a late record"]),
+    }
+}
+
+/// A refusal of the filters or the annotation, of which the former are looked at first.
+pub fn note_annotated(seen: &mut Seen, (number, place): (u8, usize)) {
+    match number {
+        6 => seen.note(6, "the annotation's length"),
+        7 => seen.note(7, "the filters' length"),
+        8 | 9 => seen.note_place(number, place, 200, ["a filter entry", "a late filter entry"]),
+        10 | 11 => seen.note_place(number, place, 25, ["an annotation record", "a late annotation record"]),
+        _ => note_roll(seen, (number, place)),
+    }
+}
+
+pub fn note_query(seen: &mut Seen, (number, place): (u8, usize), query: &[u8], limits: Limits) {
+    let late = limits.entries * 3 / 4;
+    let bad_length = query.is_empty() || query.len() % ENTRY_BYTES > 0 || query.len() > limits.entries * ENTRY_BYTES;
+    match number {
+        12 if bad_length => seen.note(12, "the query's length"),
+        12 => seen.note_place(12, place, late, ["the last query entry", "the last query entry, a late one"]),
+        _ => seen.note_place(number, place, late, ["a query entry", "a late query entry"]),
+    }
+}
+
+/// An accepted query that has as many entries as it may have, or is as high.
+pub fn note_greatest_query(seen: &mut Seen, query: &[u8], limits: Limits) {
+    let entries = read_query(query, limits).expect("it was accepted");
+    if entries.len() == limits.entries {
+        seen.note(0, "the most query entries");
+    }
+    if heights(&entries).into_iter().max() == Some(limits.height) {
+        seen.note(0, "the highest query");
+    }
+}
+
+/// An accepted annotation and its filters, likewise.
+pub fn note_greatest_annotation(seen: &mut Seen, input: &Annotated) {
+    let entries = read_filters(&input.filters).expect("they were accepted");
+    if entries.len() == FILTER_TABLE.entries {
+        seen.note(0, "the most filter entries");
+    }
+    if heights(&entries).into_iter().max() == Some(FILTER_TABLE.height) {
+        seen.note(0, "the highest filters");
+    }
+    if input.annotation.len() == 32 * ENTRY_BYTES {
+        seen.note(0, "the most records");
+    }
+}
+
+/// A refusal of a call that takes an annotation and a curator's query. 8 and 9 are the filters' if these are not in order.
+pub fn note_asked(seen: &mut Seen, refused: (u8, usize), input: &Annotated, query: &[u8]) {
+    match refused.0 {
+        8 | 9 if read_filters(&input.filters).is_ok() => note_query(seen, refused, query, CURATORS_QUERY),
+        12 => note_query(seen, refused, query, CURATORS_QUERY),
+        _ => note_annotated(seen, refused),
+    }
+}
