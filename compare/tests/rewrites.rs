@@ -3,7 +3,7 @@
 
 use compare::annotated::Annotated;
 use compare::chance::Chance;
-use compare::records::{cases, entry, from_hex, grown_roll, node, NO_PARENT};
+use compare::records::{cases, entry, from_hex, grown_roll, node, MOST_NODES, NO_PARENT};
 use compare::same::{self, rewritten_reaches, REWRITE_ROOM};
 use compare::tables::table_of;
 use second::roll::Tree;
@@ -144,4 +144,21 @@ fn the_smallest_inputs() {
         rewritten_reaches(&input, &query, &table);
     }
     assert_eq!(rewritten(&[], &[], &[], REWRITE_ROOM), Err(Reply::Refused { number: 12, place: 0 }));
+}
+
+/// Rolls of 4,096 nodes whose nodes with label 2 are hidden: from every visible node a step along each axis, and a few queries besides.
+#[test]
+fn the_greatest_rolls() {
+    let mut chance = Chance::new(12);
+    let hiding = Annotated::hiding_label_2();
+    let below_root = |at: usize| node(1 + (at % 2) as u8, if at == 0 { NO_PARENT } else { 0 });
+    let wide: Vec<u8> = (0..MOST_NODES).flat_map(below_root).collect();
+    for roll in [wide, grown_roll(&mut chance, MOST_NODES, 2), grown_roll(&mut chance, MOST_NODES, 3)] {
+        let input = Annotated { roll, ..hiding.clone() };
+        for text in ["v", "^", ">", "<", "v/v|^/^", ">/>", "[!>]/<", "^/[!v/[#3]]/v"] {
+            let query = table_of(text);
+            let table = rewritten(&input.annotation, &input.filters, &query, REWRITE_ROOM).expect("it is not refused");
+            assert!(rewritten_reaches(&input, &query, &table) > 0 || text == "v/v|^/^");
+        }
+    }
 }
