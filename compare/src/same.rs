@@ -110,7 +110,7 @@ pub fn rewrite(annotation: &[u8], filters: &[u8], query: &[u8], room: usize) -> 
     if !matches!((ours.0, theirs.0), (Reply::Count(_), Reply::Count(_))) {
         assert_eq!(ours.0, theirs.0, "{}", shown());
     }
-    let ours = written(ours, |entries| 6 * entries, &shown);
+    let [ours, _] = [ours, theirs].map(|outcome| written(outcome, |entries| 6 * entries, &shown));
     if let (Reply::Count(_), table) = &ours {
         assert!(table.starts_with(filters), "{}", shown());
         assert!(read_query(table, QUERY_ON_ROLL).is_ok(), "{}", shown());
