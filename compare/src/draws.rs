@@ -143,6 +143,7 @@ fn run_of_record(chance: &mut Chance, seen: &mut Seen) {
     let nodes = roll.len() / 4;
     let record = match chance.below(8) {
         0 => chance.pick(&[nodes, nodes + 1, 4096, 65_535, 65_536, usize::MAX / 4 + 1, usize::MAX]),
+        1 => chance.pick(&[0, 1, nodes.saturating_sub(1)]),
         _ => chance.below(nodes + 1),
     };
     let run = same::run_of_record(&roll, record).len();

@@ -1,4 +1,4 @@
-//! Query texts that grow by the grammar: short, long, deep, and spoilt.
+//! Query texts that grow by the grammar, but for a label now and then: short, long, deep, and spoilt.
 
 use crate::chance::Chance;
 
@@ -137,10 +137,19 @@ fn filter(chance: &mut Chance, depth: usize, out: &mut Vec<u8>) {
         match chance.below(if depth == 0 { 4 } else { 5 }) {
             0 => out.push(b't'),
             1 => out.push(b'f'),
-            2 => out.extend(format!("#{}", 1 + chance.below(64)).bytes()),
+            2 => out.extend(format!("#{}", label(chance)).bytes()),
             3 => path(chance, depth.saturating_sub(1), out),
             _ => bracketed(chance, depth, b'{', b'}', filter, out),
         }
+    }
+}
+
+/// A label; one in sixteen is none, or has a digit too many.
+fn label(chance: &mut Chance) -> String {
+    if chance.one_in(16) {
+        chance.pick(&["", "0", "01", "064", "65", "66", "70", "99", "100", "640"]).to_string()
+    } else {
+        (1 + chance.below(64)).to_string()
     }
 }
 
