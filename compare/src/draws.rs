@@ -1,4 +1,5 @@
-//! Inputs of each call drawn by chance: small ones and such that come up to the limits, as they grow or damaged, in rooms of all lengths.
+//! Inputs of each call drawn by chance: small ones and such that come up to the limits, as they grow or damaged, with rooms that are too
+//! short, as named and longer.
 
 use second::table::{Limits, CURATORS_QUERY, FILTER_TABLE, QUERY_ON_ROLL};
 
@@ -163,7 +164,9 @@ fn run_of_record(chance: &mut Chance, seen: &mut Seen) {
 fn read_text(chance: &mut Chance, seen: &mut Seen) {
     let text = some_text(chance);
     let room = some_room(chance, TEXT_ROOM);
-    note_text(seen, same::read_text(&text, room).0, text.len());
+    let reply = same::read_text(&text, room).0;
+    note_room(seen, reply, room, TEXT_ROOM);
+    note_text(seen, reply, text.len());
 }
 
 /// A query within limits, small or great, which unfolds to no more than said.
@@ -186,7 +189,10 @@ fn answer_on_roll(chance: &mut Chance, seen: &mut Seen) {
             }
         }
     }
-    match outcome(same::answer_on_roll(&roll, &query, some_room(chance, BITMAP_ROOM)).0) {
+    let room = some_room(chance, BITMAP_ROOM);
+    let reply = same::answer_on_roll(&roll, &query, room).0;
+    note_room(seen, reply, room, BITMAP_ROOM);
+    match outcome(reply) {
         Err(refused) if refused.0 < 6 => note_roll(seen, refused),
         Err(refused) => note_query(seen, refused, &query, QUERY_ON_ROLL),
         Ok(count) => {
@@ -225,7 +231,10 @@ fn cut_view(chance: &mut Chance, seen: &mut Seen) {
         }
     }
     let size = input.roll.len();
-    match outcome(same::cut_view(&input, some_room(chance, size)).0) {
+    let room = some_room(chance, size);
+    let reply = same::cut_view(&input, room).0;
+    note_room(seen, reply, room, size);
+    match outcome(reply) {
         Err(refused) => note_annotated(seen, refused),
         Ok(nodes) => {
             note_view(seen, nodes == size / 4, great);
@@ -246,7 +255,9 @@ fn rewrite(chance: &mut Chance, seen: &mut Seen) {
             }
         }
     }
-    let (reply, table) = same::rewrite(&input.annotation, &input.filters, &query, some_room(chance, REWRITE_ROOM));
+    let room = some_room(chance, REWRITE_ROOM);
+    let (reply, table) = same::rewrite(&input.annotation, &input.filters, &query, room);
+    note_room(seen, reply, room, REWRITE_ROOM);
     match outcome(reply) {
         Err(refused) => note_asked(seen, refused, &input, &query),
         Ok(_) => {
@@ -271,7 +282,9 @@ fn curators_answer(chance: &mut Chance, seen: &mut Seen) {
             }
         }
     }
-    let (reply, bitmap) = same::curators_answer(&input, &query, some_room(chance, BITMAP_ROOM));
+    let room = some_room(chance, BITMAP_ROOM);
+    let (reply, bitmap) = same::curators_answer(&input, &query, room);
+    note_room(seen, reply, room, BITMAP_ROOM);
     match outcome(reply) {
         Err(refused) => note_asked(seen, refused, &input, &query),
         Ok(count) => {

@@ -6,7 +6,8 @@ use second::Reply;
 use crate::annotated::Annotated;
 use crate::seen::{outcome, Kind, Seen};
 
-pub const OF_ROOM: &[Kind] = &[(1, "the room")];
+pub const OF_ROOM: &[Kind] =
+    &[(1, "a room short by one"), (1, "a shorter room"), (0, "a room as named"), (0, "a longer room")];
 pub const OF_ROLL: &[Kind] = &[
     (2, "the roll's length"),
     (3, "a record"),
@@ -77,11 +78,20 @@ pub const OF_RUNS: &[Kind] = &[
     (0, "nothing, no such record"),
 ];
 
+/// The room of a call that has one: too short, as long as is named for it, or longer. Other refusals say nothing of it.
+pub fn note_room(seen: &mut Seen, reply: Reply, room: usize, named: usize) {
+    match outcome(reply) {
+        Err((1, _)) => seen.note(1, if room + 1 == named { "a room short by one" } else { "a shorter room" }),
+        Err(_) => {}
+        Ok(_) => seen.note(0, if room == named { "a room as named" } else { "a longer room" }),
+    }
+}
+
 /// What a text of so many bytes came to.
 pub fn note_text(seen: &mut Seen, reply: Reply, length: usize) {
     let late = 500;
     match outcome(reply) {
-        Err((1, _)) => seen.note(1, "the room"),
+        Err((1, _)) => {}
         Err((13, _)) => seen.note(13, "the text's length"),
         Err((14, place)) if place == length => seen.note_place(14, place, late, ["the end", "a late end"]),
         Err((16, _)) => seen.note_place(16, length, late, ["the text", "a long text"]),
@@ -106,9 +116,10 @@ pub fn note_view(seen: &mut Seen, all: bool, great: bool) {
     seen.note(0, kinds[usize::from(all)][usize::from(great)]);
 }
 
+/// A refusal of the roll; one of the room is noted with the room.
 pub fn note_roll(seen: &mut Seen, (number, place): (u8, usize)) {
     match number {
-        1 => seen.note(1, "the room"),
+        1 => {}
         2 => seen.note(2, "the roll's length"),
         _ => seen.note_place(number, place, 4000, ["a record", "a late record"]),
     }
