@@ -7,7 +7,7 @@ use crate::annotated::Annotated;
 use crate::chance::Chance;
 use crate::damage::{break_annotation, break_roll, break_table};
 use crate::outcomes::*;
-use crate::records::{chain, grown_roll, wide, MOST_NODES};
+use crate::records::{chain, grown_roll, labelled, wide, MOST_NODES};
 use crate::same::{self, BITMAP_ROOM, REWRITE_ROOM, TEXT_ROOM};
 use crate::seen::{outcome, Kind, Seen};
 use crate::tables::{Table, LABELS};
@@ -103,8 +103,8 @@ fn some_roll(chance: &mut Chance, labels: usize, longest_chain: usize) -> (Vec<u
         _ => 1 + chance.below(24),
     };
     let roll = match chance.below(8) {
-        0 if size <= longest_chain => chain(size),
-        1 => wide(size),
+        0 if size <= longest_chain => labelled(chance, chain(size), labels),
+        1 => labelled(chance, wide(size), labels),
         _ => grown_roll(chance, size, labels),
     };
     (roll, size > 1000)

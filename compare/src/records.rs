@@ -50,12 +50,15 @@ pub fn grown_roll(chance: &mut Chance, size: usize, labels: usize) -> Vec<u8> {
         }
         parents.push(parent);
     }
-    labelled(chance, &parents, labels)
+    labelled(chance, parents.iter().flat_map(|parent| node(1, *parent)).collect(), labels)
 }
 
-/// The records with these parents and labels by chance.
-fn labelled(chance: &mut Chance, parents: &[usize], labels: usize) -> Vec<u8> {
-    parents.iter().flat_map(|parent| node(1 + chance.below(labels) as u8, *parent)).collect()
+/// The roll with labels by chance.
+pub fn labelled(chance: &mut Chance, mut roll: Vec<u8>, labels: usize) -> Vec<u8> {
+    for record in roll.chunks_mut(4) {
+        record[0] = 1 + chance.below(labels) as u8;
+    }
+    roll
 }
 
 /// A roll of one shape: each record's parent is given by its number.
