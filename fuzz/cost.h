@@ -1,0 +1,15 @@
+/* A bound, in steps, of what answering may cost. The calls end on every input, but stars inside one another multiply, and an entry that is
+ * used twice at every height doubles at every height: such inputs would stop the fuzzer for hours. They are left out by this bound. */
+#ifndef FUZZ_COST_H
+#define FUZZ_COST_H
+
+#include "input.h"
+
+#define COST_LIMIT 3e7
+
+/* Of call 3. */
+double cost_on_roll(struct part roll, struct part query);
+/* Of calls 4 and 6; of call 4 where the query is empty. */
+double cost_of_view(const struct part parts[PARTS]);
+
+#endif

@@ -1,0 +1,86 @@
+/* Calls that break a promise, one at a time, in front of the library's own (by the linker's --wrap): each must end the run of the corpus.
+ * So the checks in fuzz/calls.c can fail, and the sanitizer sees what the library reads and writes. WRONG in the environment is the number
+ * of the mistake. */
+#include <stdint.h>
+#include <stdlib.h>
+
+#include "kepolas.h"
+
+static int mistake(int number) {
+    const char *wrong = getenv("WRONG");
+    return wrong != NULL && atoi(wrong) == number;
+}
+
+uint64_t __real_kepolas_check_roll(const uint8_t *, size_t, size_t *);
+uint64_t __real_kepolas_read_text(const uint8_t *, size_t, uint8_t *, size_t, size_t *);
+uint64_t __real_kepolas_answer_on_roll(const uint8_t *, size_t, const uint8_t *, size_t, uint8_t *, size_t, size_t *);
+uint64_t __real_kepolas_cut_view(const uint8_t *, size_t, const uint8_t *, size_t, const uint8_t *, size_t, uint8_t *, size_t, size_t *);
+uint64_t __real_kepolas_rewrite(const uint8_t *, size_t, const uint8_t *, size_t, const uint8_t *, size_t, uint8_t *, size_t, size_t *);
+uint64_t __real_kepolas_curators_answer(const uint8_t *, size_t, const uint8_t *, size_t, const uint8_t *, size_t, const uint8_t *, size_t,
+                                        uint8_t *, size_t, size_t *);
+void __real_kepolas_run_of(const uint8_t *, size_t, size_t, size_t *, size_t *);
+
+/* 1: the library is told of a record behind the roll, and reads it. 2: one node too many is counted. */
+uint64_t __wrap_kepolas_check_roll(const uint8_t *roll, size_t roll_len, size_t *told) {
+    uint64_t refusal = __real_kepolas_check_roll(roll, mistake(1) ? roll_len + KEPOLAS_NODE_BYTES : roll_len, told);
+    if (mistake(2) && refusal == 0) ++*told;
+    return refusal;
+}
+
+/* 3: a refused text is written. 4: the place of a refusal is one too high. 5: the table is told one entry longer, and is no table. */
+uint64_t __wrap_kepolas_read_text(const uint8_t *text, size_t text_len, uint8_t *room, size_t room_len, size_t *told) {
+    uint64_t refusal = __real_kepolas_read_text(text, text_len, room, room_len, told);
+    if (mistake(3) && refusal != 0 && room_len > 0) room[0] ^= 1;
+    if (mistake(4) && refusal != 0) ++*told;
+    if (mistake(5) && refusal == 0) ++*told;
+    return refusal;
+}
+
+/* 6: the count is not that of the ones. 7: a byte behind the bitmap is written. 8: a node behind the roll is answered. 16: the library is
+ * told of more room than there is, where it refuses nothing, and writes there. */
+uint64_t __wrap_kepolas_answer_on_roll(const uint8_t *roll, size_t roll_len, const uint8_t *query, size_t query_len, uint8_t *room,
+                                       size_t room_len, size_t *told) {
+    uint8_t own[KEPOLAS_BITMAP_ROOM];
+    int told_of_more = mistake(16) && __real_kepolas_answer_on_roll(roll, roll_len, query, query_len, own, sizeof own, told) == 0;
+    size_t said = told_of_more ? sizeof own : room_len;
+    uint64_t refusal = __real_kepolas_answer_on_roll(roll, roll_len, query, query_len, room, said, told);
+    if (mistake(6) && refusal == 0) ++*told;
+    if (mistake(7) && refusal == 0 && room_len > KEPOLAS_BITMAP_ROOM) room[KEPOLAS_BITMAP_ROOM] ^= 1;
+    if (mistake(8) && refusal == 0 && roll_len < 8 * 4) room[1] |= 1, ++*told;
+    return refusal;
+}
+
+/* 9: the last node of the view is left out. 10: a short room is taken. */
+uint64_t __wrap_kepolas_cut_view(const uint8_t *roll, size_t roll_len, const uint8_t *annotation, size_t annotation_len,
+                                 const uint8_t *filters, size_t filters_len, uint8_t *room, size_t room_len, size_t *told) {
+    size_t said = mistake(10) && room_len < roll_len ? roll_len : room_len;
+    uint64_t refusal =
+        __real_kepolas_cut_view(roll, roll_len, annotation, annotation_len, filters, filters_len, room, said, told);
+    if (mistake(9) && refusal == 0) --*told;
+    return refusal;
+}
+
+/* 11: the filter table's first entry is written over. 12: the query is handed back as it came. */
+uint64_t __wrap_kepolas_rewrite(const uint8_t *annotation, size_t annotation_len, const uint8_t *filters, size_t filters_len,
+                                const uint8_t *query, size_t query_len, uint8_t *room, size_t room_len, size_t *told) {
+    size_t records = mistake(12) ? 0 : annotation_len;
+    uint64_t refusal = __real_kepolas_rewrite(annotation, records, filters, filters_len, query, query_len, room, room_len, told);
+    if (mistake(11) && refusal == 0 && filters_len > 0) room[0] ^= 1;
+    return refusal;
+}
+
+/* 13: the answer on the roll is given for hers. 14: an input that is only read is changed. */
+uint64_t __wrap_kepolas_curators_answer(const uint8_t *roll, size_t roll_len, const uint8_t *annotation, size_t annotation_len,
+                                        const uint8_t *filters, size_t filters_len, const uint8_t *query, size_t query_len,
+                                        uint8_t *room, size_t room_len, size_t *told) {
+    size_t records = mistake(13) ? 0 : annotation_len;
+    if (mistake(14) && query_len > 0) ((uint8_t *)query)[query_len - 1] ^= 1;
+    return __real_kepolas_curators_answer(roll, roll_len, annotation, records, filters, filters_len, query, query_len, room, room_len,
+                                          told);
+}
+
+/* 15: the run is a record short. */
+void __wrap_kepolas_run_of(const uint8_t *roll, size_t roll_len, size_t k, size_t *start, size_t *end) {
+    __real_kepolas_run_of(roll, roll_len, k, start, end);
+    if (mistake(15) && *end > 0) *end -= KEPOLAS_NODE_BYTES;
+}
