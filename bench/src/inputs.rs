@@ -1,13 +1,4 @@
-//! How long the proved library takes, beside the second program, on the same inputs in one run. Times are for release builds and say
-//! nothing in others. Nothing is cleared between two runs of one input.
-
-mod answers;
-mod curators;
-mod hidden;
-mod rolls;
-mod stack;
-mod tools;
-mod views;
+//! The checks of rolls and tables and the reading of texts, for each byte or entry.
 
 use std::hint::black_box;
 use std::time::Instant;
@@ -40,7 +31,7 @@ fn line(name: &str, size: usize, reply: Reply, (proved, second): (f64, f64)) {
     println!("{name:<38}{size:>8}{reply:>10}{proved:>10.2}ns{second:>10.2}ns{:>8.2}", proved / second);
 }
 
-fn checking_rolls() {
+pub fn checking_rolls() {
     let node = |i: usize, parent: usize| {
         let parent = if i == 0 { 65_535 } else { parent };
         [1u8, 0, (parent % 256) as u8, (parent / 256) as u8]
@@ -98,7 +89,7 @@ fn time_reading(text: &[u8]) -> (f64, f64) {
     for_each_unit(text.len(), proved, second)
 }
 
-fn reading_texts() {
+pub fn reading_texts() {
     head("reading a text, for each byte", "bytes");
     let short = ["v", "v/v", "v*/[#5]"].map(|text| (text, text.as_bytes().to_vec())).to_vec();
     let mut seen = Vec::new();
@@ -135,16 +126,11 @@ fn tall(entries: usize, joined: bool) -> Vec<u8> {
     (0..entries).flat_map(entry).collect()
 }
 
-/// The table with a filter behind it or, where it is full, for its last entry. Call 3 refuses it when it has checked all of it, so that on
-/// a roll of one record the time is that of the check.
-fn refused_at_its_end(mut table: Vec<u8>) -> Vec<u8> {
-    table.truncate(6 * 1023);
-    table.extend([18, 0, 0, 0, 0, 0]);
-    table
-}
+const ROOT: [u8; 4] = [1, 0, 255, 255];
+const HERE: [u8; 6] = [1, 0, 0, 0, 0, 0];
 
-fn checking_tables() {
-    let (root, mut room) = ([1, 0, 255, 255], [0; 512]);
+/// By call 3 on a root alone, asked to stay there: it has little else to do than to check the table.
+pub fn checking_tables() {
     head("checking a query table, for each entry", "entries");
     let of_texts = shapes(256).into_iter().filter_map(|(name, text)| {
         let mut room = vec![0; 1536];
@@ -152,39 +138,16 @@ fn checking_tables() {
         room.truncate(6 * entries);
         (entries > 16).then_some((name, room))
     });
-    let greatest = [("stars, 128 high", tall(1024, false)), ("sequences, 128 high", tall(1020, true))];
+    let greatest = [("stars, 128 high", tall(1023, false)), ("sequences, 128 high", tall(1020, true))];
     let mut slowest = 0.0f64;
-    for (name, table) in of_texts.chain(greatest) {
-        let table = refused_at_its_end(table);
-        let proved = || compare::answer_on_roll(&root, black_box(&table), &mut [0; 512]);
-        let second = || second::answer_on_roll(&root, black_box(&table), &mut [0; 512]);
+    for (name, mut table) in of_texts.chain(greatest) {
+        table.extend(HERE);
+        let (mut ours, mut theirs) = ([0; 512], [0; 512]);
+        let proved = || compare::answer_on_roll(&ROOT, black_box(&table), &mut ours);
+        let second = || second::answer_on_roll(&ROOT, black_box(&table), &mut theirs);
         let times = for_each_unit(table.len() / 6, proved, second);
         slowest = slowest.max(times.0);
-        line(name, table.len() / 6, compare::answer_on_roll(&root, &table, &mut room), times);
+        line(name, table.len() / 6, compare::answer_on_roll(&ROOT, &table, &mut [0; 512]), times);
     }
     println!("the slowest of these: {slowest:.2} ns for each entry");
-}
-
-/// All parts, or those that are named.
-fn main() {
-    let parts: [(&str, fn()); 12] = [
-        ("rolls", checking_rolls),
-        ("texts", reading_texts),
-        ("tables", checking_tables),
-        ("answers", answers::answering),
-        ("shared", answers::shared),
-        ("views", views::cutting),
-        ("rewriting", views::rewriting),
-        ("curators", curators::answering),
-        ("court", curators::on_court),
-        ("runs", curators::over_hidden_runs),
-        ("stack", stack::stack),
-        ("curators-stack", stack::curators_stack),
-    ];
-    let named: Vec<String> = std::env::args().skip(1).collect();
-    for (name, part) in parts {
-        if named.is_empty() || named.iter().any(|wanted| wanted == name) {
-            part();
-        }
-    }
 }

@@ -45,23 +45,33 @@ pub fn share(roll: Vec<u8>, percent: u64, seed: u64) -> Annotated {
     })
 }
 
-/// Drafts are hidden, and so are words of drafts without a tick: document 01's annotation with lines in it.
-pub fn drafts(roll: Vec<u8>) -> Annotated {
+/// A filter's table written behind others: an operand's number is raised by theirs.
+fn behind(filters: &mut Vec<u8>, text: &str) {
+    let first = filters.len() / 6;
+    let table = table_of(&format!("[{text}]"));
+    for record in table[..table.len() - 6].chunks(6) {
+        let operand = |low: usize| u16::from_le_bytes([record[low], record[low + 1]]) as usize;
+        let moved = |low: usize, used: &[u8]| if used.contains(&record[0]) { operand(low) + first } else { 0 };
+        let (left, right) = (moved(2, &[6, 7, 8, 9, 17, 20, 21, 22]), moved(4, &[7, 8, 21, 22]));
+        filters.extend([record[0], record[1]]);
+        filters.extend(&entry(0, left, right)[2..]);
+    }
+}
+
+/// A roll with records for pairs of labels, each with its filter's text.
+pub fn annotated(roll: Vec<u8>, records: &[(u8, u8, &str)]) -> Annotated {
     let (mut filters, mut annotation) = (Vec::new(), Vec::new());
-    for (parent, child, text) in [(1, 2, "[!v/[#9]]"), (2, 4, "[f]"), (3, 5, "[v/[#8]]")] {
-        let first = filters.len() / 6;
-        let table = table_of(text);
-        for record in table[..table.len() - 6].chunks(6) {
-            let operand = |low: usize| u16::from_le_bytes([record[low], record[low + 1]]) as usize;
-            let moved = |low: usize, used: &[u8]| if used.contains(&record[0]) { operand(low) + first } else { 0 };
-            let (left, right) = (moved(2, &[6, 7, 8, 9, 17, 20, 21, 22]), moved(4, &[7, 8, 21, 22]));
-            let mut record = [&[record[0], record[1]], &entry(0, left, right)[2..]].concat();
-            filters.append(&mut record);
-        }
-        annotation.extend([parent, child]);
+    for (parent, child, text) in records {
+        behind(&mut filters, text);
+        annotation.extend([*parent, *child]);
         annotation.extend(&entry(0, filters.len() / 6 - 1, 0)[2..]);
     }
     Annotated { roll, annotation, filters }
+}
+
+/// Drafts are hidden, and so are words of drafts without a tick: document 01's annotation with lines in it.
+pub fn drafts(roll: Vec<u8>) -> Annotated {
+    annotated(roll, &[(1, 2, "!v/[#9]"), (2, 4, "f"), (3, 5, "v/[#8]")])
 }
 
 /// The shape at a place in the list of shapes, with 4,096 nodes and eight times with 512, each with its nodes hidden by chance.
