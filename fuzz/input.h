@@ -5,7 +5,8 @@
  *     0      which call: 1 and the remainder by 7
  *     1      room: so many bytes more than the call asks for, read as a signed number
  *     2      weight 1: the query part is a text, which call 2 reads first; weight 2: so is the filter part
- *     3      the remainder by 4 says which part is repeated, the quotient how often: long tables from short inputs
+ *     3      the remainder by 4 says which part is made longer, the quotient q by how much, for tables at their limits from short inputs:
+ *            a roll by 65 q nodes behind its last one, as siblings of it or, for even q, as a chain below it; others are repeated q times
  *     4, 5   the record asked of call 7
  *     6, 7   bytes of the roll part
  *     8      bytes of the annotation part
