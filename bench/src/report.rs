@@ -79,7 +79,10 @@ fn means<'a>(answers: impl Iterator<Item = &'a Answer> + Clone) -> [f64; 2] {
 
 /// In how many answers calls 6 and 3 take longer than libxml2.
 fn behind<'a>(answers: impl Iterator<Item = &'a Answer> + Clone) -> [usize; 2] {
-    [answers.clone().filter(|one| one.curators > one.peer).count(), answers.filter(|one| one.on_view > one.peer).count()]
+    [
+        answers.clone().filter(|one| one.curators > one.peer).count(),
+        answers.filter(|one| one.on_view > one.peer).count(),
+    ]
 }
 
 fn summary(shares: &[Share]) -> String {

@@ -27,36 +27,45 @@ uint64_t __wrap_kepolas_check_roll(const uint8_t *roll, size_t roll_len, size_t 
     return refusal;
 }
 
-/* 3: a refused text is written. 4: the place of a refusal is one too high. 5: the table is told one entry longer, and is no table. */
+/* 3: a refused text is written. 4: the place of a refusal is one too high. 5: the table is told one entry longer, and is no table. 17: a
+ * text is refused by a number for tables. */
 uint64_t __wrap_kepolas_read_text(const uint8_t *text, size_t text_len, uint8_t *room, size_t room_len, size_t *told) {
     uint64_t refusal = __real_kepolas_read_text(text, text_len, room, room_len, told);
     if (mistake(3) && refusal != 0 && room_len > 0) room[0] ^= 1;
     if (mistake(4) && refusal != 0) ++*told;
     if (mistake(5) && refusal == 0) ++*told;
-    return refusal;
+    return mistake(17) && refusal == KEPOLAS_NOT_IN_GRAMMAR ? KEPOLAS_ENTRY_MALFORMED : refusal;
 }
 
-/* 6: the count is not that of the ones. 7: a byte behind the bitmap is written. 8: a node behind the roll is answered. 16: the library is
- * told of more room than there is, where it refuses nothing, and writes there. */
+/* Of calls 3 and 6 alike, 6: the count is not that of the ones. 7: a byte behind the bitmap is written. 8: a node behind the roll is
+ * answered. */
+static void spoil_answer(size_t roll_len, uint8_t *room, size_t room_len, size_t *told) {
+    if (mistake(6)) ++*told;
+    if (mistake(7) && room_len > KEPOLAS_BITMAP_ROOM) room[KEPOLAS_BITMAP_ROOM] ^= 1;
+    if (mistake(8) && roll_len < 8 * KEPOLAS_NODE_BYTES) room[1] |= 1, ++*told;
+}
+
+/* 16: the library is told of more room than there is, where it refuses nothing, and writes there. */
 uint64_t __wrap_kepolas_answer_on_roll(const uint8_t *roll, size_t roll_len, const uint8_t *query, size_t query_len, uint8_t *room,
                                        size_t room_len, size_t *told) {
     uint8_t own[KEPOLAS_BITMAP_ROOM];
     int told_of_more = mistake(16) && __real_kepolas_answer_on_roll(roll, roll_len, query, query_len, own, sizeof own, told) == 0;
     size_t said = told_of_more ? sizeof own : room_len;
     uint64_t refusal = __real_kepolas_answer_on_roll(roll, roll_len, query, query_len, room, said, told);
-    if (mistake(6) && refusal == 0) ++*told;
-    if (mistake(7) && refusal == 0 && room_len > KEPOLAS_BITMAP_ROOM) room[KEPOLAS_BITMAP_ROOM] ^= 1;
-    if (mistake(8) && refusal == 0 && roll_len < 8 * 4) room[1] |= 1, ++*told;
+    if (refusal == 0) spoil_answer(roll_len, room, room_len, told);
     return refusal;
 }
 
-/* 9: the last node of the view is left out. 10: a short room is taken. */
+/* 9: the last node of the view is not counted. 10: a short room is taken. 18: the root is labelled otherwise. 19: the last node is not shown,
+ * though there are no records. */
 uint64_t __wrap_kepolas_cut_view(const uint8_t *roll, size_t roll_len, const uint8_t *annotation, size_t annotation_len,
                                  const uint8_t *filters, size_t filters_len, uint8_t *room, size_t room_len, size_t *told) {
     size_t said = mistake(10) && room_len < roll_len ? roll_len : room_len;
+    if (mistake(19) && annotation_len == 0 && roll_len > KEPOLAS_NODE_BYTES) roll_len -= KEPOLAS_NODE_BYTES;
     uint64_t refusal =
         __real_kepolas_cut_view(roll, roll_len, annotation, annotation_len, filters, filters_len, room, said, told);
     if (mistake(9) && refusal == 0) --*told;
+    if (mistake(18) && refusal == 0) room[0] = (uint8_t)(1 + room[0] % 64);
     return refusal;
 }
 
@@ -75,8 +84,10 @@ uint64_t __wrap_kepolas_curators_answer(const uint8_t *roll, size_t roll_len, co
                                         uint8_t *room, size_t room_len, size_t *told) {
     size_t records = mistake(13) ? 0 : annotation_len;
     if (mistake(14) && query_len > 0) ((uint8_t *)query)[query_len - 1] ^= 1;
-    return __real_kepolas_curators_answer(roll, roll_len, annotation, records, filters, filters_len, query, query_len, room, room_len,
-                                          told);
+    uint64_t refusal = __real_kepolas_curators_answer(roll, roll_len, annotation, records, filters, filters_len, query, query_len, room,
+                                                      room_len, told);
+    if (refusal == 0) spoil_answer(roll_len, room, room_len, told);
+    return refusal;
 }
 
 /* 15: the run is a record short. */
