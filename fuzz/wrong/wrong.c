@@ -56,8 +56,8 @@ uint64_t __wrap_kepolas_answer_on_roll(const uint8_t *roll, size_t roll_len, con
     return refusal;
 }
 
-/* 9: the last node of the view is not counted. 10: a short room is taken. 18: the root is labelled otherwise. 19: the last node is not shown,
- * though there are no records. */
+/* 9: the last node of the view is not counted. 10: a short room is taken. 18: the root is labelled otherwise. 19: the last node is not
+ * shown, though there are no records. */
 uint64_t __wrap_kepolas_cut_view(const uint8_t *roll, size_t roll_len, const uint8_t *annotation, size_t annotation_len,
                                  const uint8_t *filters, size_t filters_len, uint8_t *room, size_t room_len, size_t *told) {
     size_t said = mistake(10) && room_len < roll_len ? roll_len : room_len;
