@@ -33,16 +33,19 @@ static double costs_of_table(struct part table, double step, double rounds, doub
     return greatest;
 }
 
+/* A step takes longer on a larger roll. */
+static double step_on(double nodes) { return 1 + nodes / 16; }
+
 double cost_on_roll(struct part roll, struct part query) {
     double costs[MOST_ENTRIES], nodes = (double)(roll.length / KEPOLAS_NODE_BYTES);
-    return costs_of_table(query, 1, nodes, costs);
+    return step_on(nodes) * costs_of_table(query, 1, nodes, costs);
 }
 
 /* In a rewritten query a step goes over hidden nodes, at each of which it asks for the filters of all records. */
 double cost_of_view(const struct part parts[PARTS]) {
     double costs[MOST_ENTRIES], nodes = (double)(parts[ROLL].length / KEPOLAS_NODE_BYTES);
     double records = (double)(parts[ANNOTATION].length / KEPOLAS_ANNOTATION_BYTES);
-    double visible = 1 + records * (1 + cost_on_roll(parts[ROLL], parts[FILTERS]));
+    double visible = 1 + records * (1 + costs_of_table(parts[FILTERS], 1, nodes, costs));
     double step = 1 + 4 * nodes * visible;
-    return visible + costs_of_table(parts[QUERY], step, nodes, costs);
+    return step_on(nodes) * (visible + costs_of_table(parts[QUERY], step, nodes, costs));
 }
