@@ -35,8 +35,10 @@ module _ {limit : Limits} {query : Bytes} (q : Query limit query) where
     pub query-asked : {roll : Bytes} {n : ℕ} → n ≡ length (entries query) → start < length (nodes roll) → Asked roll query path (n - 1) from
     unfolding last
     query-asked {roll} {n} e l = record {
-      within = omega (arith, some-entry);
-      sort = subst (λ (m : ℕ). HasSort (entries query) (m - 1) path) (sym e) (q .path);
+      entry = record {
+        within = omega (arith, some-entry);
+        sort = subst (λ (m : ℕ). HasSort (entries query) (m - 1) path) (sym e) (q .path);
+      };
       nodes-only = λ k x. subst (λ (m : ℕ). m < length (nodes roll)) (only k x) l;
     }
 

@@ -19,6 +19,7 @@ ghost use Rattle.query.specs.Meaning.{reach};
 ghost use Rattle.query.specs.Table.{entries, queryOf};
 ghost use Rattle.query.specs.Fault.{answered, Query};
 ghost use Rattle.sets.specs.Sets.{In, Holds};
+ghost use Rattle.evaluator.specs.Evaluator.{Held};
 ghost use Rattle.answer.specs.Promise.{Answered};
 ghost use Rattle.answer.specs.Given.{BitmapGiven};
 
@@ -32,10 +33,17 @@ pub fn give(set: [u64; 64], room: &mut [u8]) -> Reply
     Reply::Count(count(set))
 }
 
-// What the query reaches from a node.
-pub fn reached(roll: &[u8], query: &[u8], start: usize) -> [u64; 64]
+// What the query reaches from a node, where it is known of one filter, that of entry `known`, at which nodes it holds.
+pub fn reached(
+    roll: &[u8],
+    query: &[u8],
+    start: usize,
+    known: usize,
+    holding: &[u64; 64],
+) -> [u64; 64]
     requires { ⌜ Roll (now roll) × Query answered (now query) ⌝ }
     requires { ⌜ start < length (nodes (now roll)) ⌝ }
+    requires { ⌜ Held (now roll) (now query) known (now holding) ⌝ }
     ensures { λ r. ⌜ Holds (reach (nodes (now (roll .entry))) (queryOf (entries (now (query .entry)))) start) r ⌝ }
 {
     let mut next = [NONE; 4096];
@@ -48,6 +56,8 @@ pub fn reached(roll: &[u8], query: &[u8], start: usize) -> [u64; 64]
         &next,
         &previous,
         query,
+        known,
+        holding,
         entries_of(query) - 1,
         Course::Forwards,
         from,
@@ -62,6 +72,7 @@ pub fn answer_on_roll(roll: &[u8], query: &[u8], room: &mut [u8]) -> Reply
     let Reply::Count(_) = ready else {
         return ready;
     };
-    let set = reached(roll, query, 0);
+    let none = empty();
+    let set = reached(roll, query, 0, entries_of(query), &none);
     give(set, room)
 }

@@ -27,8 +27,8 @@ pub fn curators_answer(
     let Reply::Count(n) = ready else {
         return ready;
     };
-    let reached = reached_through(roll, annotation, filters, query);
     let shown = visible_nodes(roll, annotation, filters);
+    let reached = reached_through(roll, annotation, filters, query, &shown);
     let found = positions_of(&shown, &reached, n);
     give(found, room)
 }

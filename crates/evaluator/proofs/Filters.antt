@@ -1,15 +1,26 @@
 -- A set narrowed to where a filter holds, for each filter that is made of others. Assumes nothing.
-use Prim.Native.Nat.{ℕ}
+use Prim.Native.Nat.{ℕ, _<_}
 use mathlib.Core.Path.{_≡_}
 use mathlib.Core.Logic.{_↔_, _⊎_, inl, inr, ⊎-elim}
 use mathlib.Core.List.{List}
-use Rattle.sets.specs.Sets.{In, Holds, Image, Narrowed}
+use Rattle.sets.specs.Sets.{In, Holds, Image, Narrowed, Inside}
 use Rattle.sets.proofs.Size.{dec-in}
 
 module _ {from : List ℕ} where
   -- nothing is narrowed to nothing
   pub narrow-empty : {P : ℕ → Type 0} → ((k : ℕ) → ¬ In from k) → Narrowed P from from
   narrow-empty none = record { exact = λ k. (λ x. absurd (none k x), λ x. x .0) }
+
+  -- where the filter holds is known: what is in both sets
+  pub narrow-known : (P : ℕ → ℕ → Type 0) {n most e known : ℕ} {holding r : List ℕ} → e ≡ known
+      → (known < most → (k : ℕ) → k < n → In holding k ↔ P known k) → e < most → Inside n from
+      → Holds (λ k. In from k × In holding k) r → Narrowed (P e) from r
+  narrow-known P {e = e} same answer low inside both = record {
+    exact = λ k. (
+      λ x. let (y, z) = both .exact k .0 x in (y, rw same (answer (rw same at low) k (inside k y) .0 z)),
+      λ (x, p). both .exact k .1 (x, answer (rw same at low) k (inside k x) .1 (rw same at p)),
+    );
+  }
 
   -- "true" keeps the set, "false" leaves nothing
   pub narrow-always : Narrowed (λ k. Unit {0}) from from

@@ -59,8 +59,8 @@ module _ {n : ℕ} {R : ℕ → ℕ → Type 0} {from : List ℕ} where
     pub round-adds : {grown : List ℕ} → n ≤ 4096 → ¬ ((k : ℕ) → ¬ In fresh k) → Holds (λ k. In all k ⊎ In fresh k) grown
         → sizeOf all < sizeOf grown
     round-adds most some g =
-        size-grown (λ k x. lt-of-lt-of-le (so-far .nodes-only k (g .exact k .0 x)) most) (λ k x. g .exact k .1 (inl x))
-        (λ same. some (λ k x. so-far .apart k x (same k (g .exact k .1 (inr x)))))
+        size-grown (λ k x. g .exact k .1 (inl x))
+        (λ same. some (λ k x. so-far .apart k x (same k (lt-of-lt-of-le (so-far .nodes-only k (inr x)) most) (g .exact k .1 (inr x)))))
 
     -- when nothing is new, the star is what was gone on from
     pub last-round : ((k : ℕ) → ¬ In fresh k) → Image (Star R) from all

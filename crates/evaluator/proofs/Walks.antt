@@ -1,7 +1,7 @@
 -- The image of a set under each kind of path, on each course. Assumes nothing.
 use Prim.Native.Nat.{ℕ}
 use native.Mathlib.Omega.{arith}
-use mathlib.Core.Path.{_≡_, sym}
+use mathlib.Core.Path.{_≡_, refl, sym}
 use mathlib.Core.Logic.{_↔_, _⊎_, Iff·rfl, Iff·symm, Iff·trans}
 use mathlib.Core.Bool.{Bool, true, false}
 use mathlib.Core.List.{List}
@@ -18,11 +18,46 @@ use Rattle.steps.specs.declared.axis.Axis.{Axis}
 use Rattle.steps.specs.declared.axis.Axis.the-variants.{Child, Parent, Next, Previous}
 use Rattle.evaluator.specs.declared.course.Course.{Course}
 use Rattle.evaluator.specs.declared.course.Course.the-variants.{Forwards, Backwards, Freely}
-use Rattle.evaluator.specs.Course.{facing, pathOf, backwards, freely}
-use Rattle.evaluator.proofs.Images.{Stays, image-self, image-stay, image-then, image-either, image-star-star}
+use Rattle.evaluator.specs.Course.{facing, pathOf, backwards, freely, firstOf}
+use Rattle.evaluator.specs.Evaluator.{Then, Still}
+use Rattle.evaluator.proofs.Images.{Stays, image-self, image-stay, image-either, image-star-star}
 
 true≢false : ¬ (_≡_ {A = Bool} true false)
 true≢false e = let z : _≡_ {A = ℕ} 0 1 = cc in omega arith
+
+-- which of two comes first
+pub first-back : (course : Course) (left right : ℕ) → backwards course ≡ true → right ≡ firstOf course left right
+first-back Forwards left right e = absurd (true≢false (sym e))
+first-back Backwards left right e = refl
+first-back Freely left right e = absurd (true≢false (sym e))
+
+pub first-forth : (course : Course) (left right : ℕ) → backwards course ≡ false → left ≡ firstOf course left right
+first-forth Forwards left right e = refl
+first-forth Backwards left right e = absurd (true≢false e)
+first-forth Freely left right e = refl
+
+-- a choice faces as its parts do
+pub facing-either : (course : Course) (p q : Path) → either (facing course p) (facing course q) ≡ facing course (either p q)
+unfolding turn free
+facing-either Forwards p q = refl
+facing-either Backwards p q = refl
+facing-either Freely p q = refl
+
+-- a filter stays where it is
+pub stay-still : (course : Course) (f : Filter) → Still (facing course (stay f))
+unfolding reach turn free
+stay-still Forwards f t i j r = r .0
+stay-still Backwards f t i j r = r .0
+stay-still Freely f t i j r = r
+
+-- one path and then another, in the order of the course
+pub then-parts : (path : ℕ → Path) (course : Course) (left right : ℕ) (t : Tree) (i j : ℕ)
+    → reach t (facing course (then (path left) (path right))) i j
+    ↔ Then (reach t (facing course (path (firstOf course left right)))) (reach t (facing course (path (firstOf course right left)))) i j
+unfolding reach turn free
+then-parts path Forwards left right t i j = Iff·rfl
+then-parts path Backwards left right t i j = Iff·rfl
+then-parts path Freely left right t i j = Iff·rfl
 
 module _ (t : Tree) where
   -- a path stays among the nodes, walked either way
@@ -78,22 +113,6 @@ module _ (t : Tree) where
     walk-stay Freely f e n = absurd (true≢false e)
 
     module _ (p q : Path) where
-      -- forwards, the left path comes first
-      pub walk-then : (course : Course) {halfway r : List ℕ} → backwards course ≡ false → Walked course p from halfway → Walked course q halfway r
-          → Walked course (then p q) from r
-      unfolding reach free
-      walk-then Forwards e a b = image-then a b
-      walk-then Backwards e a b = absurd (true≢false e)
-      walk-then Freely e a b = image-then a b
-
-      -- and backwards the right one
-      pub walk-then-back : (course : Course) {halfway r : List ℕ} → backwards course ≡ true → Walked course q from halfway → Walked course p halfway r
-          → Walked course (then p q) from r
-      unfolding reach turn
-      walk-then-back Forwards e a b = absurd (true≢false (sym e))
-      walk-then-back Backwards e a b = image-then a b
-      walk-then-back Freely e a b = absurd (true≢false (sym e))
-
       pub walk-either : (course : Course) {one other r : List ℕ} → Walked course p from one → Walked course q from other
           → Holds (λ k. In one k ⊎ In other k) r → Walked course (either p q) from r
       unfolding reach turn free

@@ -26,6 +26,12 @@ freely Forwards = false
 freely Backwards = false
 freely Freely = true
 
+-- the one of two that comes first
+abbrev pub firstOf : Course → ℕ → ℕ → ℕ
+firstOf Forwards left right = left
+firstOf Backwards left right = right
+firstOf Freely left right = left
+
 -- the path that is one step along an axis
 abbrev pub pathOf : Axis → Path
 pathOf Child = syntax.child

@@ -1,22 +1,58 @@
 -- What an evaluation rests on.
 use Prim.Native.Nat.{ℕ, _<_}
+use mathlib.Core.Path.{_≡_}
+use mathlib.Core.Logic.{_↔_}
 use mathlib.Core.List.{List}
 use lib.ListN.{length}
 use Rattle.reply.specs.Bytes.{Bytes}
+use Rattle.tree.specs.Tree.{Tree}
 use Rattle.roll.specs.Roll.{nodes, Roll}
+use Rattle.query.specs.Syntax.{Path}
 use Rattle.query.specs.Kind.{Sort}
-use Rattle.query.specs.Table.{entries, HasSort, EntryRight}
-use Rattle.sets.specs.Sets.{Inside}
+use Rattle.query.specs.Meaning.{reach, holds}
+use Rattle.query.specs.Table.{entries, HasSort, EntryRight, filterAt}
+use Rattle.sets.specs.Sets.{In, Inside}
 use Rattle.links.specs.Links.{Siblings}
+
+-- the entries of a table are in order
+abbrev pub InOrder : Bytes → Type 0
+InOrder table = (i : ℕ) → i < length (entries table) → EntryRight (entries table) i
 
 -- a roll with its links, and a table whose entries are in order
 pub record Grounds (roll table : Bytes) (next previous : List ℕ) : Type 0 where
   pub roll-right : Roll roll
   pub links : Siblings (nodes roll) next previous
-  pub each : (i : ℕ) → i < length (entries table) → EntryRight (entries table) i
+  pub each : InOrder table
+
+-- the nodes where the filter of entry `known` holds, if the table has such an entry
+abbrev pub Held : Bytes → Bytes → ℕ → List ℕ → Type 0
+Held roll table known holding =
+    known < length (entries table) → (k : ℕ) → k < length (nodes roll) → In holding k ↔ holds (nodes roll) (filterAt (entries table) known) k
+
+-- all that an evaluation is given
+pub record Knowing (roll table : Bytes) (next previous : List ℕ) (known : ℕ) (holding : List ℕ) : Type 0 where
+  pub grounds : Grounds roll table next previous
+  pub answer : Held roll table known holding
+
+-- the table has an entry e of a sort
+pub record Within (table : Bytes) (s : Sort) (e : ℕ) : Type 0 where
+  pub within : e < length (entries table)
+  pub sort : HasSort (entries table) e s
 
 -- entry e of a sort is asked of a set of nodes
 pub record Asked (roll table : Bytes) (s : Sort) (e : ℕ) (from : List ℕ) : Type 0 where
-  pub within : e < length (entries table)
-  pub sort : HasSort (entries table) e s
+  pub entry : Within table s e
   pub nodes-only : Inside (length (nodes roll)) from
+
+-- one relation and then another
+abbrev pub Then : (ℕ → ℕ → Type 0) → (ℕ → ℕ → Type 0) → ℕ → ℕ → Type 0
+Then R Q i j = (k : ℕ) × R i k × Q k j
+
+-- the path stays where it is
+abbrev pub Still : Path → Type 0
+Still p = (t : Tree) (i j : ℕ) → reach t p i j → i ≡ j
+
+-- a set that has what a star starts from, and all that steps lead to from it
+pub record Covers (A : ℕ → ℕ → Type 0) (from all : List ℕ) : Type 0 where
+  pub start : (i : ℕ) → In from i → In all i
+  pub closed : (i j : ℕ) → In all i → A i j → In all j

@@ -1,2 +1,3 @@
 pub mod Course
 pub mod Evaluator
+pub mod Ways

@@ -7,7 +7,7 @@ ghost use Prim.Native.Nat.{ℕ, _≤_};
 ghost use Rattle.tree.specs.Tree.{Tree};
 ghost use Rattle.query.specs.Meaning.{reach};
 ghost use Rattle.steps.specs.Axis.{Along};
-ghost use Rattle.evaluator.specs.Course.{facing, pathOf, backwards, freely, OfKind};
+ghost use Rattle.evaluator.specs.Course.{facing, pathOf, backwards, freely, firstOf, OfKind};
 
 // Forwards; backwards, with the axes turned round and the steps in the other order; or forwards with every filter taken to hold.
 pub enum Course {
@@ -16,7 +16,7 @@ pub enum Course {
     Freely,
 }
 
-pub(crate) fn is_back(course: Course) -> bool
+fn is_back(course: Course) -> bool
     ensures { λ r. ⌜ r ≡ backwards course ⌝ }
 {
     match course {
@@ -34,6 +34,13 @@ pub(crate) fn is_free(course: Course) -> bool
         Course::Backwards => false,
         Course::Freely => true,
     }
+}
+
+// The one of two operands that comes first.
+pub(crate) fn first_of(course: Course, left: usize, right: usize) -> usize
+    ensures { λ r. ⌜ r ≡ firstOf course left right ⌝ }
+{
+    if is_back(course) { right } else { left }
 }
 
 // The axis of a kind: 2 child, 3 parent, 4 next sibling, 5 previous sibling.

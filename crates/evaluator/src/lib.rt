@@ -1,41 +1,57 @@
 // Paths and filters on sets of nodes: a path takes a set to its image, and a filter narrows a set to the nodes where it holds. The two
-// call each other, and the entry number falls.
+// call each other, and the entry number falls. Of one filter, of number `known`, the nodes where it holds may be known beforehand.
 mod course;
+mod cover;
+mod ways;
 
 pub use course::Course;
 use course::axis_of;
-use course::is_back;
+use course::first_of;
 use course::is_free;
 use course::way;
+use cover::cover;
+use sets::below;
 use sets::common;
 use sets::difference;
 use sets::empty;
 use sets::is_empty;
 use sets::union;
+use steps::Axes;
+use steps::closure;
 use steps::labelled;
+use steps::only;
 use steps::step;
-use steps::sweep;
 use tables::entry::entry_at;
+use tables::entry::kind_at;
+use ways::Way;
+use ways::way_of;
+ghost use mathlib.Core.Path.{_≡_};
 ghost use Rattle.roll.specs.Roll.{nodes};
 ghost use Rattle.query.specs.Kind.{path, filter};
-ghost use Rattle.query.specs.Meaning.{reach, holds};
+ghost use Rattle.query.specs.Meaning.{reach, holds, Star};
 ghost use Rattle.query.specs.Syntax as syntax;
-ghost use Rattle.query.specs.Table.{entries, pathAt, filterAt};
+ghost use Rattle.query.specs.Table.{entries, entryAt, pathAt, filterAt};
 ghost use Rattle.sets.specs.Sets.{Image, Narrowed};
+ghost use Rattle.steps.specs.Axis.{AlongAny};
 ghost use Rattle.evaluator.specs.Course.{facing};
-ghost use Rattle.evaluator.specs.Evaluator.{Grounds, Asked};
+ghost use Rattle.evaluator.specs.Evaluator.{Knowing, Asked, Then, Still};
+
+// "Stay if the filter holds."
+const STAY: usize = 6;
 
 // What the path of entry e reaches from a set of nodes, on the course given.
 pub fn image(
     roll: &[u8],
     next: &[u16; 4096],
-    previous: &[u16; 4096],
+    prior: &[u16; 4096],
     table: &[u8],
+    known: usize,
+    held: &[u64; 64],
     e: usize,
     course: Course,
     from: [u64; 64],
 ) -> [u64; 64]
-    requires { ⌜ Grounds (now roll) (now table) (now next) (now previous) × Asked (now roll) (now table) path e from ⌝ }
+    requires { ⌜ Knowing (now roll) (now table) (now next) (now prior) known (now held) × Asked (now roll) (now table) path e from ⌝ }
     ensures { λ r. ⌜ Image (reach (nodes (now (roll .entry))) (facing course (pathAt (entries (now (table .entry))) e))) from r ⌝ }
 {
     if is_empty(from) {
@@ -46,74 +62,195 @@ pub fn image(
     let left = entry.left;
     let right = entry.right;
     match kind {
-        2 | 3 | 4 | 5 => step(roll, next, previous, way(axis_of(kind), course), from),
+        2 | 3 | 4 | 5 => step(roll, next, prior, only(way(axis_of(kind), course)), from),
         6 => {
             if is_free(course) {
                 from
             } else {
-                narrow(roll, next, previous, table, left, from)
+                narrow(roll, next, prior, table, known, held, left, from)
             }
         }
         7 => {
-            if is_back(course) {
-                let halfway = image(roll, next, previous, table, right, course, from);
-                image(roll, next, previous, table, left, course, halfway)
-            } else {
-                let halfway = image(roll, next, previous, table, left, course, from);
-                image(roll, next, previous, table, right, course, halfway)
-            }
+            let first = first_of(course, left, right);
+            let second = first_of(course, right, left);
+            let half = image(roll, next, prior, table, known, held, first, course, from);
+            image(roll, next, prior, table, known, held, second, course, half)
         }
         8 => {
-            let one = image(roll, next, previous, table, left, course, from);
-            let other = image(roll, next, previous, table, right, course, from);
+            let one = image(roll, next, prior, table, known, held, left, course, from);
+            let other = image(roll, next, prior, table, known, held, right, course, from);
             union(one, other)
         }
-        9 => star(roll, next, previous, table, left, course, from),
+        9 => star(roll, next, prior, table, known, held, left, course, from),
         _ => from,
     }
 }
 
-// What the path of entry e reaches in zero or more goes: along one axis in one sweep, of a star what that star reaches, and by rounds
-// where the path is made of others.
+// What the path of entry e reaches in zero or more goes: along axes each node is gone on from once; of a star it is what that star
+// reaches; and a path made of others goes by rounds.
 fn star(
     roll: &[u8],
     next: &[u16; 4096],
-    previous: &[u16; 4096],
+    prior: &[u16; 4096],
     table: &[u8],
+    known: usize,
+    held: &[u64; 64],
     e: usize,
     course: Course,
     from: [u64; 64],
 ) -> [u64; 64]
-    requires { ⌜ Grounds (now roll) (now table) (now next) (now previous) × Asked (now roll) (now table) path e from ⌝ }
+    requires { ⌜ Knowing (now roll) (now table) (now next) (now prior) known (now held) × Asked (now roll) (now table) path e from ⌝ }
     ensures { λ r. ⌜ Image (reach (nodes (now (roll .entry))) (syntax.star (facing course (pathAt (entries (now (table .entry))) e)))) from r ⌝ }
 {
     let entry = entry_at(table, e);
     let kind = entry.kind;
     match kind {
-        2 | 3 | 4 | 5 => sweep(roll, next, previous, way(axis_of(kind), course), from),
-        9 => star(roll, next, previous, table, entry.left, course, from),
-        _ => by_rounds(roll, next, previous, table, e, course, from),
+        7 => of_two(roll, next, prior, table, known, held, e, course, from),
+        9 => star(
+            roll,
+            next,
+            prior,
+            table,
+            known,
+            held,
+            entry.left,
+            course,
+            from,
+        ),
+        _ => {
+            let way = way_of(table, e, course);
+            match way {
+                Way::Along(axes) => closure(roll, next, prior, axes, below(4096), from),
+                Way::Otherwise => by_rounds(roll, next, prior, table, known, held, e, course, from),
+            }
+        }
     }
+}
+
+// The star of entry e, which is one path and then another: where one of the two is a filter and the other leads along axes, the filter is
+// asked once.
+fn of_two(
+    roll: &[u8],
+    next: &[u16; 4096],
+    prior: &[u16; 4096],
+    table: &[u8],
+    known: usize,
+    held: &[u64; 64],
+    e: usize,
+    course: Course,
+    from: [u64; 64],
+) -> [u64; 64]
+    requires { ⌜ Knowing (now roll) (now table) (now next) (now prior) known (now held) × Asked (now roll) (now table) path e from ⌝ }
+    requires { ⌜ entryAt (entries (now table)) e .kind ≡ 7 ⌝ }
+    ensures { λ r. ⌜ Image (reach (nodes (now (roll .entry))) (syntax.star (facing course (pathAt (entries (now (table .entry))) e)))) from r ⌝ }
+{
+    let entry = entry_at(table, e);
+    let first = first_of(course, entry.left, entry.right);
+    let second = first_of(course, entry.right, entry.left);
+    if kind_at(table, first) == STAY {
+        let way = way_of(table, second, course);
+        if let Way::Along(axes) = way {
+            return filter_first(
+                roll,
+                next,
+                prior,
+                table,
+                known,
+                held,
+                first,
+                axes,
+                course,
+                from,
+            );
+        }
+    } else {
+        if kind_at(table, second) == STAY {
+            let way = way_of(table, first, course);
+            if let Way::Along(axes) = way {
+                return filter_last(
+                    roll,
+                    next,
+                    prior,
+                    table,
+                    known,
+                    held,
+                    second,
+                    axes,
+                    course,
+                    from,
+                );
+            }
+        }
+    }
+    by_rounds(roll, next, prior, table, known, held, e, course, from)
+}
+
+// The star of the filter of entry e and then a step along the axes: the filter is asked once.
+fn filter_first(
+    roll: &[u8],
+    next: &[u16; 4096],
+    prior: &[u16; 4096],
+    table: &[u8],
+    known: usize,
+    held: &[u64; 64],
+    e: usize,
+    axes: Axes,
+    course: Course,
+    from: [u64; 64],
+) -> [u64; 64]
+    requires { ⌜ Knowing (now roll) (now table) (now next) (now prior) known (now held) × Asked (now roll) (now table) path e from ⌝ }
+    requires { ⌜ Still (facing course (pathAt (entries (now table)) e)) ⌝ }
+    ensures { λ r. ⌜ Image (Star (Then (reach (nodes (now (roll .entry))) (facing course (pathAt (entries (now (table .entry))) e))) (AlongAny (nodes (now (roll .entry))) axes))) from r ⌝ }
+{
+    let all = cover(roll, next, prior, table, known, e, axes, from);
+    let sources = image(roll, next, prior, table, known, held, e, course, all);
+    closure(roll, next, prior, axes, sources, from)
+}
+
+// The star of a step along the axes and then the filter of entry e.
+fn filter_last(
+    roll: &[u8],
+    next: &[u16; 4096],
+    prior: &[u16; 4096],
+    table: &[u8],
+    known: usize,
+    held: &[u64; 64],
+    e: usize,
+    axes: Axes,
+    course: Course,
+    from: [u64; 64],
+) -> [u64; 64]
+    requires { ⌜ Knowing (now roll) (now table) (now next) (now prior) known (now held) × Asked (now roll) (now table) path e from ⌝ }
+    requires { ⌜ Still (facing course (pathAt (entries (now table)) e)) ⌝ }
+    ensures { λ r. ⌜ Image (Star (Then (AlongAny (nodes (now (roll .entry))) axes) (reach (nodes (now (roll .entry))) (facing course (pathAt (entries (now (table .entry))) e))))) from r ⌝ }
+{
+    let begun = step(roll, next, prior, axes, from);
+    let all = cover(roll, next, prior, table, known, e, axes, begun);
+    let sources = image(roll, next, prior, table, known, held, e, course, all);
+    let ends = closure(roll, next, prior, axes, sources, begun);
+    union(from, common(ends, sources))
 }
 
 // What the path of entry e reaches in zero or more goes, by rounds: it goes on from what is new in the last one, until nothing is.
 fn by_rounds(
     roll: &[u8],
     next: &[u16; 4096],
-    previous: &[u16; 4096],
+    prior: &[u16; 4096],
     table: &[u8],
+    known: usize,
+    held: &[u64; 64],
     e: usize,
     course: Course,
     from: [u64; 64],
 ) -> [u64; 64]
-    requires { ⌜ Grounds (now roll) (now table) (now next) (now previous) × Asked (now roll) (now table) path e from ⌝ }
+    requires { ⌜ Knowing (now roll) (now table) (now next) (now prior) known (now held) × Asked (now roll) (now table) path e from ⌝ }
     ensures { λ r. ⌜ Image (reach (nodes (now (roll .entry))) (syntax.star (facing course (pathAt (entries (now (table .entry))) e)))) from r ⌝ }
 {
     let mut all = empty();
     let mut fresh = from;
     while !is_empty(fresh) {
         let grown = union(all, fresh);
-        let reached = image(roll, next, previous, table, e, course, fresh);
+        let reached = image(roll, next, prior, table, known, held, e, course, fresh);
         let rest = difference(reached, grown);
         all = grown;
         fresh = rest;
@@ -126,16 +263,21 @@ fn by_rounds(
 pub fn narrow(
     roll: &[u8],
     next: &[u16; 4096],
-    previous: &[u16; 4096],
+    prior: &[u16; 4096],
     table: &[u8],
+    known: usize,
+    held: &[u64; 64],
     e: usize,
     from: [u64; 64],
 ) -> [u64; 64]
-    requires { ⌜ Grounds (now roll) (now table) (now next) (now previous) × Asked (now roll) (now table) filter e from ⌝ }
+    requires { ⌜ Knowing (now roll) (now table) (now next) (now prior) known (now held) × Asked (now roll) (now table) filter e from ⌝ }
     ensures { λ r. ⌜ Narrowed (holds (nodes (now (roll .entry))) (filterAt (entries (now (table .entry))) e)) from r ⌝ }
 {
     if is_empty(from) {
         return from;
+    }
+    if e == known {
+        return common(from, *held);
     }
     let entry = entry_at(table, e);
     let kind = entry.kind;
@@ -144,20 +286,28 @@ pub fn narrow(
     match kind {
         16 => labelled(roll, entry.label, from),
         17 => {
-            let ends = image(roll, next, previous, table, left, Course::Freely, from);
-            let starts = image(roll, next, previous, table, left, Course::Backwards, ends);
+            let free = Course::Freely;
+            let back = Course::Backwards;
+            let ends = image(roll, next, prior, table, known, held, left, free, from);
+            let starts = image(roll, next, prior, table, known, held, left, back, ends);
             common(from, starts)
         }
         18 => from,
-        20 => difference(from, narrow(roll, next, previous, table, left, from)),
+        20 => difference(
+            from,
+            narrow(roll, next, prior, table, known, held, left, from),
+        ),
         21 => {
-            let first = narrow(roll, next, previous, table, left, from);
-            narrow(roll, next, previous, table, right, first)
+            let first = narrow(roll, next, prior, table, known, held, left, from);
+            narrow(roll, next, prior, table, known, held, right, first)
         }
         22 => {
-            let first = narrow(roll, next, previous, table, left, from);
+            let first = narrow(roll, next, prior, table, known, held, left, from);
             let rest = difference(from, first);
-            union(first, narrow(roll, next, previous, table, right, rest))
+            union(
+                first,
+                narrow(roll, next, prior, table, known, held, right, rest),
+            )
         }
         _ => empty(),
     }

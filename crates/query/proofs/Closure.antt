@@ -21,7 +21,7 @@ star-more stop last = step last stop
 star-more (step r more) last = step r (star-more more last)
 
 -- a star behind a star is one, and so a star of stars
-star-append : {R : ℕ → ℕ → Type 0} {i k j : ℕ} → Star R i k → Star R k j → Star R i j
+pub star-append : {R : ℕ → ℕ → Type 0} {i k j : ℕ} → Star R i k → Star R k j → Star R i j
 star-append {R} {i} first more = star-keeps (Star R i) (λ a b s r. star-more s r) first more
 
 pub star-flat : {R : ℕ → ℕ → Type 0} {i j : ℕ} → Star (Star R) i j → Star R i j

@@ -19,7 +19,7 @@ module _ (annotation filters query before : Bytes) (n : ℕ) (after : Bytes) whe
     table-bytes : length (filters ++ given .behind) ≡ 6 * n
     table-bytes = omega (arith, given .count, entries-length (filters ++ given .behind), given .accepted .size .size .multiple)
 
-    table-front : take (6 * n) after ≡ filters ++ given .behind
+    pub table-front : take (6 * n) after ≡ filters ++ given .behind
     table-front = ap (take (6 * n)) (given .written .bytes) ∙ take-at _ _ (6 * n) table-bytes
 
     -- there are 1,024 at most, and they stand in the room

@@ -4,26 +4,32 @@ use Prim.Native.Nat.{ℕ, _+_, _-_, _*_, _≤_, _<_}
 use native.Mathlib.Nat.{zero-add}
 use native.Mathlib.Omega.{arith}
 use mathlib.Core.Path.{_≡_, sym, ap, _∙_, subst}
+use mathlib.Core.Logic.{Iff·symm}
 use mathlib.Core.List.{List, [], _++_, append-assoc, append-nil}
 use lib.Dec.{lit≤}
 use lib.ListN.{length, take, drop, length-append, length-drop, drop-of-length-le}
 use lib.Seq.{sets-eq, take-all, take-length, take-at, drop-at, drop-drop}
 use Rattle.reply.specs.Bytes.{Bytes, Written}
+use Rattle.roll.specs.Roll.{nodes}
+use Rattle.roll.proofs.Deciding.{roll-in-order}
 use Rattle.query.specs.Kind.{path}
 use Rattle.query.specs.Table.{Entries, entries, entryBytes, HasSort, EntryRight, heightAt, queryOf}
 use Rattle.query.specs.Fault.{curators, answered, last, Query}
 use Rattle.query.proofs.Bytes.{bytes-length}
 use Rattle.query.proofs.Tables.{entries-length}
 use Rattle.view.specs.Annotation.{AnnotationRecord, records, recordAt, RecordForm, rules}
-use Rattle.view.specs.Promise.{Annotated}
+use Rattle.view.specs.Promise.{Seen, Annotated}
 use Rattle.checks.proofs.Records.{records-length}
 use Rattle.written.specs.Written.{preludeSize, written}
 use Rattle.written.proofs.Stands.{Sound}
-use Rattle.written.proofs.Table.{table-size, table-sound, table-stands}
+use Rattle.written.proofs.Table.{table-size, table-sound, table-stands, visible-stands}
 use Rattle.written.proofs.Back.{table-back}
 use Rattle.writer.specs.Laid.{laid, Room, LabelBytes, Numbers, AllInOrder}
 use Rattle.writer.proofs.Recording.{written-size}
+use Rattle.rewriting.proofs.VisibleFilter.{visible-right}
 use Rattle.rewrite.specs.Promise.{Faithful, Rewritten}
+use Rattle.rewrite.specs.Visible.{visibleEntry, VisibleTold}
+use Rattle.rewrite.proofs.Given.{table-front}
 use Rattle.rewrite.proofs.Faithful.{visibleOn, rewritten-faithful}
 
 -- the part of some bytes from a place on, as it is lent
@@ -163,6 +169,16 @@ module _ {annotation filters query : Bytes} (annotated : Annotated annotation fi
       let stands = table-stands sound rs forms own-right (few-own .0) (asked .path) in
       rw (back, stands .1) (rewritten-faithful annotation filters (queryOf own))
 
+  -- one of its entries tells who is visible
+  visible-told : VisibleTold annotation filters (filters ++ entryBytes behind)
+  unfolding Seen rules
+  visible-told = record {
+    exact = λ roll r k l.
+        let place : visibleEntry annotation filters ≡ 12 + (length front + 1 + 9 * length rs) = omega arith in
+        rw (back, place, visible-stands sound rs forms own-right)
+        (Iff·symm (visible-right (nodes roll) (roll-in-order r) (rules front annotation) k l));
+  }
+
   -- "1,024 entries": they fit in a room of 6,144 bytes
   fits-room : {n : ℕ} → 6144 ≤ n → length filters + 6 * length behind ≤ n
   fits-room room = let f = few in omega (arith, entries-length filters, annotated .table .size .multiple, length-append front behind)
@@ -204,3 +220,10 @@ module _ {annotation filters query : Bytes} (annotated : Annotated annotation fi
           accepted = accepted;
           faithful = faithful;
         }
+
+    -- the entries counted tell it too
+    pub made-told : {first more : ℕ} {after : Bytes} → first ≡ length front → more ≡ length (written first rs own)
+        → after ≡ laid (lent copied size) 0 (written first rs own)
+        → VisibleTold annotation filters (take (6 * (first + more)) (restored copied size after))
+    unfolding made
+    made-told e many laid-there = rw (table-front _ _ _ _ _ _ (made e many laid-there)) visible-told

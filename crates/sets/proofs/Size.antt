@@ -13,9 +13,9 @@ use lib.Dec.{T, eqb, lit<}
 use lib.Count as Count
 use lib.Count.{ones-step, ones-le}
 use Rattle.tree.proofs.Tests.{Decides, equal-test, same-test, decided}
-use Rattle.query.proofs.Sets.{has, tabulate, length-tabulate, has-tabulate, size, size-bound, part-whole}
+use Rattle.query.proofs.Sets.{has, tabulate, length-tabulate, has-tabulate, has-inside, size, size-bound, part-whole}
 use Rattle.sets.specs.Bits.{digit, bitOf, ones}
-use Rattle.sets.specs.Sets.{In, Inside}
+use Rattle.sets.specs.Sets.{In}
 use Rattle.sets.proofs.Digits.{digit-below, digit-zero, digit-suc}
 
 -- ---- sizes of tables
@@ -118,9 +118,9 @@ unfoldable pub sizeOf : List ℕ → ℕ
 unfolding table size
 sizeOf set = size (table set)
 
-has-table : (set : List ℕ) → Inside 4096 set → (k : ℕ) → T (has (table set) k) ↔ In set k
+has-table : (set : List ℕ) (k : ℕ) → k < 4096 → T (has (table set) k) ↔ In set k
 unfolding table
-has-table set inside k = has-tabulate 4096 (λ j. eqb (bitOf 64 set j) 1) k (in-test set k) (inside k)
+has-table set k l = has-tabulate 4096 (λ j. eqb (bitOf 64 set j) 1) k (in-test set k) (λ m. l)
 
 length-table : (set : List ℕ) → length (table set) ≡ 4096
 unfolding table
@@ -136,19 +136,18 @@ unfolding sizeOf
 ones-size set e fits = ones-bits 64 (lit< tt) set fits ∙ ap (λ (n : ℕ). size (tabulate n (λ k. eqb (bitOf 64 set k) 1))) (omega arith)
 
 -- a set with all the members of another and one more has the greater size
-pub grown : {a r : List ℕ} → Inside 4096 r → ((k : ℕ) → In a k → In r k) → ¬ ((k : ℕ) → In r k → In a k) → sizeOf a < sizeOf r
+pub grown : {a r : List ℕ} → ((k : ℕ) → In a k → In r k) → ¬ ((k : ℕ) → k < 4096 → In r k → In a k) → sizeOf a < sizeOf r
 unfolding sizeOf
-grown {a} {r} inside part new =
-    lt-of-not-le (λ l. new (λ k m. has-a k .0 (subst (λ (s : List Bool). T (has s k)) (sym (same l)) (has-r k .1 m))))
+grown {a} {r} part new =
+    lt-of-not-le (λ l. new (λ k low m. has-table a k low .0 (subst (λ (s : List Bool). T (has s k)) (sym (same l)) (has-table r k low .1 m))))
   where
-    has-r : (k : ℕ) → T (has (table r) k) ↔ In r k
-    has-r = has-table r inside
-
-    has-a : (k : ℕ) → T (has (table a) k) ↔ In a k
-    has-a = has-table a (λ k m. inside k (part k m))
+    inside : (k : ℕ) → T (has (table a) k) → k < 4096
+    inside k x = subst (λ (n : ℕ). k < n) (length-table a) (has-inside (table a) k x)
 
     same : size (table r) ≤ size (table a) → table a ≡ table r
-    same l = part-whole (table a) (table r) (length-table a ∙ sym (length-table r)) (λ k x. has-r k .1 (part k (has-a k .0 x))) l
+    same l =
+        part-whole (table a) (table r) (length-table a ∙ sym (length-table r))
+        (λ k x. has-table r k (inside k x) .1 (part k (has-table a k (inside k x) .0 x))) l
 
 -- the bytes of a set have its ones
 pub bytes-ones : (set bytes : List ℕ) → length set ≡ 64 → length bytes ≡ 512

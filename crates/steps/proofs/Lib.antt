@@ -1,4 +1,5 @@
 pub mod Adding
-pub mod Reaching
+pub mod Axes
+pub mod Going
 pub mod Members
-pub mod Sweeping
+pub mod Reaching

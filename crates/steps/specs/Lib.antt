@@ -1,2 +1,3 @@
 pub mod Axis
 pub mod Added
+pub mod Star

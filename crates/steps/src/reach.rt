@@ -1,4 +1,5 @@
 // What a step along an axis reaches from one node.
+use crate::axis::Axes;
 use crate::axis::Axis;
 use links::NONE;
 use roll::count;
@@ -6,11 +7,12 @@ use roll::parent_at;
 use sets::add;
 ghost use mathlib.Core.Path.{_≡_};
 ghost use Prim.Native.Nat.{_<_};
+ghost use lib.Dec.{T};
 ghost use lib.ListN.{getD};
 ghost use Rattle.tree.specs.Tree.{Child, Next};
 ghost use Rattle.roll.specs.Roll.{nodes, Roll};
 ghost use Rattle.links.specs.Links.{Link, Linked, Siblings};
-ghost use Rattle.steps.specs.Axis.{Along};
+ghost use Rattle.steps.specs.Axis.{Along, AlongAny};
 ghost use Rattle.steps.specs.Added.{Added, FirstChild, Leads};
 
 // A link as a number.
@@ -75,7 +77,7 @@ fn add_linked(links: &[u16; 4096], i: usize, out: &mut [u64; 64])
 }
 
 // Adds what a step along the axis reaches from i.
-pub(crate) fn add_reached(
+fn add_reached(
     roll: &[u8],
     next: &[u16; 4096],
     previous: &[u16; 4096],
@@ -93,4 +95,42 @@ pub(crate) fn add_reached(
         Axis::Next => add_linked(next, i, out),
         Axis::Previous => add_linked(previous, i, out),
     }
+}
+
+// Adds what a step along the axis reaches from i, if the axis is taken.
+fn add_taken(
+    roll: &[u8],
+    next: &[u16; 4096],
+    previous: &[u16; 4096],
+    axis: Axis,
+    taken: bool,
+    i: usize,
+    out: &mut [u64; 64],
+)
+    requires { ⌜ Roll (now roll) × Siblings (nodes (now roll)) (now next) (now previous) ⌝ }
+    requires { ⌜ i < 4096 ⌝ }
+    ensures { λ _. ⌜ Added (λ j. T taken × Along (nodes (now (roll .entry))) axis i j) (now (out .entry)) (now (out .exit)) ⌝ }
+{
+    if taken {
+        add_reached(roll, next, previous, axis, i, out);
+    }
+}
+
+// Adds what a step along one of the axes reaches from i.
+pub(crate) fn add_along(
+    roll: &[u8],
+    next: &[u16; 4096],
+    previous: &[u16; 4096],
+    axes: Axes,
+    i: usize,
+    out: &mut [u64; 64],
+)
+    requires { ⌜ Roll (now roll) × Siblings (nodes (now roll)) (now next) (now previous) ⌝ }
+    requires { ⌜ i < 4096 ⌝ }
+    ensures { λ _. ⌜ Added (AlongAny (nodes (now (roll .entry))) axes i) (now (out .entry)) (now (out .exit)) ⌝ }
+{
+    add_taken(roll, next, previous, Axis::Child, axes.child, i, out);
+    add_taken(roll, next, previous, Axis::Parent, axes.parent, i, out);
+    add_taken(roll, next, previous, Axis::Next, axes.next, i, out);
+    add_taken(roll, next, previous, Axis::Previous, axes.previous, i, out);
 }

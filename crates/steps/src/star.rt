@@ -1,92 +1,83 @@
-// A star along one axis, in one sweep over the nodes: children and next siblings have greater numbers, parents and previous siblings
-// smaller ones, so what is added on the way is still to come.
-use crate::axis::Axis;
-use crate::reach::add_reached;
-use sets::has;
-ghost use mathlib.Core.Path.{_≡_};
-ghost use mathlib.Core.Bool.{true, false};
-ghost use Prim.Native.Nat.{ℕ, _+_, _/_, _%_, _<_};
-ghost use lib.Dec.{T};
+// A star along axes: it goes on from each node once, in whatever order they come.
+use crate::axis::Axes;
+use crate::reach::add_along;
+use sets::add;
+use sets::empty;
+ghost use Prim.Native.Nat.{ℕ, _+_, _*_, _<_};
 ghost use Rattle.roll.specs.Roll.{nodes, Roll};
 ghost use Rattle.query.specs.Meaning.{Star};
-ghost use Rattle.sets.specs.Sets.{In, Image};
+ghost use Rattle.sets.specs.Sets.{Image};
 ghost use Rattle.links.specs.Links.{Siblings};
-ghost use Rattle.steps.specs.Axis.{Along, down};
-ghost use Rattle.steps.specs.Added.{Added};
+ghost use Rattle.steps.specs.Star.{Waits, Digits, FirstWaiting, StepFrom, GoneOn};
 
-// Whether the axis leads to smaller numbers.
-fn leads_down(axis: Axis) -> bool
-    ensures { λ r. ⌜ r ≡ down axis ⌝ }
+// The digits of word w whose nodes wait: they are in the set and may be gone on from, and that has not been done.
+fn waiting(set: &[u64; 64], sources: &[u64; 64], gone: &[u64; 64], w: usize) -> u64
+    requires { ⌜ w < 64 ⌝ }
+    ensures { λ r. ⌜ Digits (Waits (now (set .entry)) (now (sources .entry)) (now (gone .entry))) w r ⌝ }
 {
-    match axis {
-        Axis::Child => false,
-        Axis::Parent => true,
-        Axis::Next => false,
-        Axis::Previous => true,
+    let members: &[u64] = set;
+    let open: &[u64] = sources;
+    let done: &[u64] = gone;
+    ((members[w] & open[w]) | done[w]) ^ done[w]
+}
+
+// The first word with a node that waits, or 64.
+fn first_waiting(set: &[u64; 64], sources: &[u64; 64], gone: &[u64; 64]) -> usize
+    ensures { λ r. ⌜ FirstWaiting (Waits (now (set .entry)) (now (sources .entry)) (now (gone .entry))) r ⌝ }
+{
+    let mut w = 0;
+    while w < 64 {
+        if waiting(set, sources, gone, w) != 0 {
+            return w;
+        }
+        w += 1;
     }
+    w
 }
 
-// The number that comes k-th in a sweep over the 4,096 that a set can have.
-fn coming(falling: bool, k: usize) -> usize
-    requires { ⌜ k < 4096 ⌝ }
-    ensures { λ r. ⌜ (falling ≡ true → r + k ≡ 4095) × (falling ≡ false → r ≡ k) ⌝ }
-{
-    if falling { 4095 - k } else { k }
-}
-
-// Whether a word begins with the k-th number, which is i, and has no member: the sweep passes it by.
-fn passes_by(set: &[u64; 64], k: usize, i: usize) -> bool
-    requires { ⌜ i < 4096 ⌝ }
-    ensures { λ r. ⌜ (T r → (k % 64 ≡ 0) × ((m : ℕ) → m / 64 ≡ i / 64 → ¬ In (now (set .entry)) m)) ⌝ }
-{
-    if k % 64 != 0 {
-        return false;
-    }
-    let words: &[u64] = set;
-    words[i / 64] == 0
-}
-
-// Goes on from i, if it is in the set.
+// Goes on from the nodes of word w that wait, until there are none.
 fn go_on(
     roll: &[u8],
     next: &[u16; 4096],
     previous: &[u16; 4096],
-    axis: Axis,
-    i: usize,
+    axes: Axes,
+    sources: &[u64; 64],
+    w: usize,
     set: &mut [u64; 64],
+    gone: &mut [u64; 64],
 )
     requires { ⌜ Roll (now roll) × Siblings (nodes (now roll)) (now next) (now previous) ⌝ }
-    requires { ⌜ i < 4096 ⌝ }
-    ensures { λ _. ⌜ Added (λ j. In (now (set .entry)) i × Along (nodes (now (roll .entry))) axis i j) (now (set .entry)) (now (set .exit)) ⌝ }
+    requires { ⌜ w < 64 ⌝ }
+    ensures { λ _. ⌜ GoneOn (StepFrom (nodes (now (roll .entry))) axes (now (sources .entry))) (now (set .entry)) (now (gone .entry)) (now (set .exit)) (now (gone .exit)) ⌝ }
+    ensures { λ _. ⌜ ((k : ℕ) → k < 64 → ¬ Waits (now (set .exit)) (now (sources .entry)) (now (gone .exit)) (64 * w + k)) ⌝ }
 {
-    let words: &[u64] = set;
-    if has(words, i) {
-        add_reached(roll, next, previous, axis, i, set);
+    let mut rest = waiting(set, sources, gone, w);
+    while rest != 0 {
+        let i = 64 * w + u64::trailing_zeros(rest) as usize;
+        add(gone, i);
+        add_along(roll, next, previous, axes, i, set);
+        rest = waiting(set, sources, gone, w);
     }
 }
 
-// What steps along the axis reach from the members of a set, zero or more of them.
-pub fn sweep(
+// What steps along the axes, each from one of the sources, reach from the members of a set, zero or more of them.
+pub fn closure(
     roll: &[u8],
     next: &[u16; 4096],
     previous: &[u16; 4096],
-    axis: Axis,
+    axes: Axes,
+    sources: [u64; 64],
     from: [u64; 64],
 ) -> [u64; 64]
     requires { ⌜ Roll (now roll) × Siblings (nodes (now roll)) (now next) (now previous) ⌝ }
-    ensures { λ r. ⌜ Image (Star (Along (nodes (now (roll .entry))) axis)) from r ⌝ }
+    ensures { λ r. ⌜ Image (Star (StepFrom (nodes (now (roll .entry))) axes sources)) from r ⌝ }
 {
-    let falling = leads_down(axis);
     let mut set = from;
-    let mut k = 0;
-    while k < 4096 {
-        let i = coming(falling, k);
-        if passes_by(&set, k, i) {
-            k += 64;
-        } else {
-            go_on(roll, next, previous, axis, i, &mut set);
-            k += 1;
-        }
+    let mut gone = empty();
+    let mut w = first_waiting(&set, &sources, &gone);
+    while w < 64 {
+        go_on(roll, next, previous, axes, &sources, w, &mut set, &mut gone);
+        w = first_waiting(&set, &sources, &gone);
     }
     set
 }

@@ -5,6 +5,8 @@ use checks::annotation::record_at;
 use evaluator::narrow;
 use roll::count;
 use sets::below;
+use sets::empty;
+use tables::entry::count as entries_of;
 ghost use Prim.Native.Nat.{_+_, _<_};
 ghost use lib.ListN.{length};
 ghost use Rattle.view.specs.Annotation.{records};
@@ -43,7 +45,17 @@ fn answer_record(
     if first_named(annotation, r) == r {
         let own = record_at(annotation, r);
         let all = below(count(roll));
-        let held = narrow(roll, next, previous, filters, own.filter, all);
+        let none = empty();
+        let held = narrow(
+            roll,
+            next,
+            previous,
+            filters,
+            entries_of(filters),
+            &none,
+            own.filter,
+            all,
+        );
         store(answers, r, held);
     }
 }

@@ -5,7 +5,7 @@ use native.Mathlib.Nat.{zero-add, add-zero}
 use native.Mathlib.Omega.{arith}
 use mathlib.Core.Path.{_≡_, refl}
 use mathlib.Core.List.{List, [], _∷_, _++_, map}
-use lib.Dec.{T, lit≤}
+use lib.Dec.{T, lit<, lit≤}
 use lib.ListN.{length, getD}
 use Rattle.query.specs.Syntax.{Path, Filter, parent, stay, then, star, leads, not, or}
 use Rattle.query.specs.Kind.{kinds, find}
@@ -69,6 +69,15 @@ module _ (own shown : Filter) where
         forwards = record { ordered = alone (axisRow 44) tt; means = refl; low = lit≤ tt };
         backwards = record { ordered = alone (axisRow 55) tt; means = refl; low = lit≤ tt };
       }
+
+  -- row 12 is the filter for visible
+  pub visible-row : getD (rowsMeant own shown) 12 nothing ≡ a-filter (seenBy own shown)
+  unfolding rowsMeant axisRows readOn mean build kinds find pathIn filterIn thePath theFilter
+  visible-row = refl
+
+  pub rows-many : 12 < length (rowsMeant own shown)
+  unfolding rowsMeant axisRows readOn
+  rows-many = lit< tt
 
 -- The rows behind a table whose last two entries say whether some record is the node's and whether some record shows it, each at most c
 -- high.

@@ -8,14 +8,14 @@ use mathlib.Core.List.{List, [], _∷_, _++_, map, append-assoc, append-nil}
 use lib.ListN.{length, getD, length-append, length-map}
 use Rattle.query.specs.Syntax.{Filter}
 use Rattle.query.specs.Kind.{path}
-use Rattle.query.specs.Table.{Entry, Entries, HasSort, EntryRight, height, heightAt, readOn, thePath, pathIn, mean, meanings, pathAt, queryOf}
+use Rattle.query.specs.Table.{Entry, Entries, HasSort, EntryRight, height, heightAt, readOn, thePath, theFilter, pathIn, filterIn, mean, meanings, pathAt, filterAt, queryOf}
 use Rattle.query.proofs.Tables.{read-length}
 use Rattle.view.specs.Annotation.{AnnotationRecord, recordAt, RecordForm, Rule}
 use Rattle.rewriting.proofs.Rewriting.{rewritten}
 use Rattle.rewriting.proofs.VisibleFilter.{someOf, pairOf, showing, climbing, visibleBy}
 use Rattle.written.specs.Written.{raise, opening, recordEntries, recordsEntries, axisRows, prelude, preludeSize, viewEntry, written}
-use Rattle.written.proofs.Stands.{nothing, sortFor, stands-as, Sound, Stood, meant-sorted}
-use Rattle.written.proofs.Axes.{seenBy, rowsMeant, rowsHeights, rows-stood, rows-sound}
+use Rattle.written.proofs.Stands.{nothing, sortFor, stands-as, stands-kept, Sound, Stood, meant-sorted}
+use Rattle.written.proofs.Axes.{seenBy, rowsMeant, rowsHeights, visible-row, rows-many, rows-stood, rows-sound}
 use Rattle.written.proofs.Records.{ruleOf, Stage, stage-begins, stage-more}
 use Rattle.written.proofs.Queries.{carry, carry-sort, carry-at, path-in, drawn-whole, sound-whole}
 
@@ -132,6 +132,14 @@ module _ {filters : Entries} {h : ℕ} (sound : Sound filters h) (records : List
         let top : ℕ = high + h + length records + 24 in
         let lows : (i : ℕ) → i < length query → most + 18 + heightAt query i ≤ top = λ i l. omega (arith, low i l) in
         rw whole-table at (sound-whole own shown distance front-rows right lows (front-sound (omega arith)))
+
+    -- an entry before the query's stands for the filter for visible
+    pub visible-stands : filterAt table (12 + distance) ≡ visibleBy ruled
+    unfolding filterAt filterIn theFilter meanings visibleBy climbing
+    visible-stands =
+        let more : Entries = map (viewEntry distance (length front)) query in
+        let here = stands-kept more (front-rows .each 12 (rows-many own shown)) in
+        ap theFilter (rw whole-table at (here .means) ∙ visible-row own shown)
 
     -- the table stands for the rewriting of the query
     pub table-stands : 1 ≤ length query → HasSort query (length query - 1) path

@@ -1,6 +1,7 @@
 -- `answer::answer_on_roll` meets its contract: what the checks refuse is refused with the room as it was, and any other query's answer is given.
 -- Assumes nothing.
 use Prim.Native.Nat.{_≤_}
+use native.Mathlib.Omega.{arith}
 use borrow.Author.Needs.{needs}
 use denote.Ref.{now}
 use lib.ListN.{length}
@@ -37,11 +38,20 @@ passed c =
     let (room, right, size) = ready-counted (c .enum-told .given .1) (c .before .before .ready-to-answer .ensures) in
     (room, right)
 
+empty-requires : tie.Need-empty-requires
+empty-requires c κs = search needs
+
+count-requires : tie.Need-count-requires
+count-requires c κs = search needs
+
+-- no entry has the number of the entries
 reached-requires : tie.Need-reached-requires
-reached-requires c κs = let right = passed c .1 in (right, roll-root (right .0))
+reached-requires c κs =
+    let right = passed (c .before .before .before) .1 in
+    (right, (roll-root (right .0), λ l. absurd (omega (arith, c .before .count .ensures))))
 
 give-requires : tie.Need-give-requires
-give-requires c κs = passed (c .before .before) .0
+give-requires c κs = passed (c .before .before .before .before .before) .0
 
 same-length : tie.Need-same-length
 same-length c = search needs
@@ -52,7 +62,7 @@ returns-2 c =
     let given = c .before .before in
     let worked = given .before .before in
     let (n, counted, bitmap) = given-as (worked .reached .ensures) (given .give .ensures) in
-    let (room, right) = passed (worked .before) in
+    let (room, right) = passed (worked .before .before .before .before) in
     rw counted (done room right bitmap)
 
 pub answer-on-roll-spec : {M : Type 1} → statement M
@@ -63,6 +73,8 @@ answer-on-roll-spec =
     enum-told
     enum-told-2
     returns
+    empty-requires
+    count-requires
     reached-requires
     give-requires
     same-length

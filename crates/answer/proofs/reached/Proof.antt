@@ -19,7 +19,7 @@ empty-requires c κs = search needs
 add-requires : tie.Need-add-requires
 add-requires c κs =
     let start = c .before .before .before .before .before .before .before in
-    omega (arith, start .pre .1, roll-most (start .pre .0 .0))
+    omega (arith, start .pre .1 .0, roll-most (start .pre .0 .0))
 
 count-requires : tie.Need-count-requires
 count-requires c κs = search needs
@@ -31,8 +31,8 @@ image-requires : tie.Need-image-requires
 image-requires c κs =
     let added = c .before .before .before in
     let begun = began c .pre in (
-      query-grounds (begun .0 .1) (begun .0 .0) (added .before .before .before .link .ensures),
-      query-asked (begun .0 .1) (added .before .before .empty .ensures) (added .add .ensures) (c .count .ensures) (begun .1),
+      record { grounds = query-grounds (begun .0 .1) (begun .0 .0) (added .before .before .before .link .ensures); answer = begun .1 .1 },
+      query-asked (begun .0 .1) (added .before .before .empty .ensures) (added .add .ensures) (c .count .ensures) (begun .1 .0),
     )
 
 returns : tie.Need-returns

@@ -41,20 +41,20 @@ passed : (c : tie.After-known-told)
 unfolding ReadyForCurator
 passed c = ready-counted (c .before .ready .given .1) (c .before .before .before .ready-for-curator .ensures)
 
-reached-through-requires : tie.Need-reached-through-requires
-reached-through-requires c κs = passed c .1
-
 visible-nodes-requires : tie.Need-visible-nodes-requires
-visible-nodes-requires c κs = let right = passed (c .before) .1 in (right .0, right .1 .0)
+visible-nodes-requires c κs = let right = passed c .1 in (right .0, right .1 .0)
+
+reached-through-requires : tie.Need-reached-through-requires
+reached-through-requires c κs = let shown = c .before in (passed (shown .before) .1, shown .visible-nodes .ensures)
 
 positions-of-requires : tie.Need-positions-of-requires
 positions-of-requires c κs =
-    let shown = c .before .before in
-    let (room, right, size) = passed (shown .before .before) in
+    let shown = c .before .before .before .before in
+    let (room, right, size) = passed (shown .before) in
     (omega (arith, roll-most (right .0)), λ k x. rw size (seen-node _ _ _ (right .0) (shown .visible-nodes .ensures .exact k .0 x)))
 
 give-requires : tie.Need-give-requires
-give-requires c κs = passed (c .before .before .before .before .before .before) .0
+give-requires c κs = passed (c .before .before .before .before .before .before .before) .0
 
 same-length : tie.Need-same-length
 same-length c = search needs
@@ -64,9 +64,10 @@ unfolding CuratorAnswered
 returns-2 c =
     let given = c .before .before in
     let found = given .before .before in
-    let shown = found .before .before .before in
-    let through = shown .before .reached-through .ensures in
-    let (room, right, size) = passed (shown .before .before) in
+    let reached = found .before .before .before in
+    let through = reached .reached-through .ensures in
+    let shown = reached .before .before in
+    let (room, right, size) = passed (shown .before) in
     let (n, counted, answered) = given-through _ _ _ _ (through .path) (right .0) (through .faithful) (shown .visible-nodes .ensures) (through .all) (found .positions-of .ensures) (given .give .ensures) in
     rw counted (done room right answered)
 
@@ -78,8 +79,8 @@ curators-answer-spec =
     enum-known-ready
     enum-told
     returns
-    reached-through-requires
     visible-nodes-requires
+    reached-through-requires
     positions-of-requires
     give-requires
     same-length

@@ -41,7 +41,7 @@ unfolding RewriteGiven
 returns-2 c =
     let at-write = c .before .before in
     let (room, right) = checked (at-write .before .before) in
-    done room right (at-write .write-rewritten .ensures)
+    done room right (at-write .write-rewritten .ensures .0)
 
 pub rewrite-spec : {M : Type 1} → statement M
 rewrite-spec =

@@ -1,7 +1,7 @@
 -- `rewrite::write_rewritten` meets its contract. Assumes nothing.
 use native.Mathlib.Omega.{arith}
 use Rattle.query.proofs.Tables.{entries-length}
-use Rattle.rewrite.proofs.Made.{writer-given, made, short-count}
+use Rattle.rewrite.proofs.Made.{writer-given, made, made-told, short-count}
 use borrow.Author.Needs.{needs}
 use Rattle.rewrite.proofs.write_rewritten.Statement.{statement}
 use Rattle.rewrite.proofs.write_rewritten.Tie as tie
@@ -56,8 +56,11 @@ returns c =
     let (annotated, asked) = start .pre .0 in
     let (size, copied) = at-copy .copy .ensures in
     let (many, laid-there) = at-write .write-behind .ensures in
-    made annotated asked (start .args .room .now) (at-copy .copy .last .1 .0) (at-copy .copy .result) (start .pre .1) size copied
-    (at-count .count .ensures) many laid-there
+    let room = start .args .room .now in
+    let front = at-copy .copy .last .1 .0 in (
+      made annotated asked room front (at-copy .copy .result) (start .pre .1) size copied (at-count .count .ensures) many laid-there,
+      made-told annotated asked room front (at-copy .copy .result) (start .pre .1) size copied (at-count .count .ensures) many laid-there,
+    )
 
 pub write-rewritten-spec : {M : Type 1} → statement M
 write-rewritten-spec =

@@ -6,17 +6,17 @@ use lib.Count.{trailingZeros}
 use borrow.Author.Needs.{needs}
 use Rattle.roll.specs.Roll.{nodes}
 use Rattle.sets.specs.Sets.{In}
-use Rattle.steps.specs.Axis.{Along}
+use Rattle.steps.specs.Axis.{AlongAny}
 use Rattle.steps.proofs.Members.{SoFar, so-far, lowest-digit, rest-less, one-more, all-done}
 use Rattle.steps.proofs.along.add_word.Statement.{statement}
 use Rattle.steps.proofs.along.add_word.Tie as tie
 
 abbrev Inv-loop : tie.InvT-loop
-Inv-loop roll next previous axis w word out₀ rest₀ out rest =
-    SoFar (λ k. Along (nodes roll) axis (64 * w + k)) (In out₀) word (In out) rest
+Inv-loop roll next previous axes w word out₀ rest₀ out rest =
+    SoFar (λ k. AlongAny (nodes roll) axes (64 * w + k)) (In out₀) word (In out) rest
 
 abbrev μ-loop : tie.MeasureT-loop
-μ-loop roll next previous axis w word out₀ rest₀ out rest = rest
+μ-loop roll next previous axes w word out₀ rest₀ out rest = rest
 
 loop-holds : tie.Need-loop-holds Inv-loop μ-loop
 loop-holds c = so-far (c .before .fits .word .fits)
@@ -31,23 +31,23 @@ cast-rest c = omega (arith, low c)
 shl-rest : tie.Need-shl-rest Inv-loop μ-loop
 shl-rest c = low c
 
-mul-add-reached : tie.Need-mul-add-reached Inv-loop μ-loop
-mul-add-reached c = search needs
+mul-add-along : tie.Need-mul-add-along Inv-loop μ-loop
+mul-add-along c = search needs
 
-cast-add-reached : tie.Need-cast-add-reached Inv-loop μ-loop
-cast-add-reached c = omega (arith, low c)
+cast-add-along : tie.Need-cast-add-along Inv-loop μ-loop
+cast-add-along c = omega (arith, low c)
 
-add-add-reached : tie.Need-add-add-reached Inv-loop μ-loop
-add-add-reached c = omega (arith, low c)
+add-add-along : tie.Need-add-add-along Inv-loop μ-loop
+add-add-along c = omega (arith, low c)
 
-add-reached-requires : tie.Need-add-reached-requires Inv-loop μ-loop
-add-reached-requires c κs = (c .before .before .before .before .pre .0, omega (arith, low (c .before)))
+add-along-requires : tie.Need-add-along-requires Inv-loop μ-loop
+add-along-requires c κs = (c .before .before .before .before .pre .0, omega (arith, low (c .before)))
 
 loop-less : tie.Need-loop-less Inv-loop μ-loop
 loop-less c = rest-less (c .before .before .before .loop .inv) (c .before .before .loop-test .taken)
 
 loop-again : tie.Need-loop-again Inv-loop μ-loop
-loop-again c = one-more (c .before .before .before .loop .inv) (c .before .before .loop-test .taken) (c .add-reached .ensures .exact)
+loop-again c = one-more (c .before .before .before .loop .inv) (c .before .before .loop-test .taken) (c .add-along .ensures .exact)
 
 returns : tie.Need-returns Inv-loop μ-loop
 returns c = record { exact = all-done (rw (c .loop-test .left) at (c .before .loop .inv)) }
@@ -61,10 +61,10 @@ add-word-spec =
     loop-holds
     cast-rest
     shl-rest
-    mul-add-reached
-    cast-add-reached
-    add-add-reached
-    add-reached-requires
+    mul-add-along
+    cast-add-along
+    add-add-along
+    add-along-requires
     loop-less
     loop-again
     returns)

@@ -6,17 +6,17 @@ use borrow.Author.Needs.{needs}
 use Rattle.roll.specs.Roll.{nodes}
 use Rattle.sets.specs.Sets.{Holds}
 use Rattle.sets.proofs.Words.{empty-set, zeros}
-use Rattle.steps.specs.Axis.{Along}
+use Rattle.steps.specs.Axis.{AlongAny}
 use Rattle.steps.proofs.Adding.{holds-same}
 use Rattle.steps.proofs.Members.{FromBelow, word-more, words-all}
 use Rattle.steps.proofs.along.step.Statement.{statement}
 use Rattle.steps.proofs.along.step.Tie as tie
 
 abbrev Inv-loop : tie.InvT-loop
-Inv-loop roll next previous axis from out₀ w₀ out w = (w ≤ 64) × Holds (FromBelow (Along (nodes roll) axis) from (64 * w)) out
+Inv-loop roll next previous axes from out₀ w₀ out w = (w ≤ 64) × Holds (FromBelow (AlongAny (nodes roll) axes) from (64 * w)) out
 
 abbrev μ-loop : tie.MeasureT-loop
-μ-loop roll next previous axis from out₀ w₀ out w = 64 - w
+μ-loop roll next previous axes from out₀ w₀ out w = 64 - w
 
 loop-holds : tie.Need-loop-holds Inv-loop μ-loop
 loop-holds c =

@@ -1,4 +1,4 @@
--- `by_rounds` meets its contract, as a member of the cycle of calls: between two rounds `Rounds` holds, and each round adds a node to those gone on from.
+-- `by_rounds`, as a member of the cycle of calls: between two rounds `Rounds` holds, and each round adds a node to those gone on from.
 -- Assumes nothing.
 use Prim.Native.Nat.{ℕ, _-_}
 use native.Mathlib.Omega.{arith}
@@ -16,28 +16,28 @@ use Rattle.query.specs.Table.{entries, pathAt}
 use Rattle.sets.proofs.Size.{sizeOf, size-most}
 use Rattle.tree.proofs.Tests.{test-failed, test-passed}
 use Rattle.evaluator.specs.Course.{facing}
-use Rattle.evaluator.specs.Evaluator.{Grounds, Asked}
+use Rattle.evaluator.specs.Evaluator.{Knowing, Asked}
 use Rattle.evaluator.proofs.Rounds.{Rounds, first-round, next-round, round-adds, last-round}
 use Rattle.evaluator.proofs.Walks.{walk-stays}
-use Rattle.evaluator.proofs.+by_rounds+image+narrow+star.Proof.Measures.{by-rounds-at, image-below}
-use Rattle.evaluator.proofs.+by_rounds+image+narrow+star.Lts-by_rounds as lts
+use Rattle.evaluator.proofs.+by_rounds+filter_first+filter_last+image+narrow+of_two+star.Proof.Measures.{by-rounds-at, image-below}
+use Rattle.evaluator.proofs.+by_rounds+filter_first+filter_last+image+narrow+of_two+star.Lts-by_rounds as lts
 use Rattle.evaluator.proofs.image.Reads as image
 use Rattle.evaluator.proofs.by_rounds.Reads as by-rounds
+use Rattle.sets.proofs.empty.Reads as empty
 use Rattle.sets.proofs.is_empty.Reads as is-empty
 use Rattle.sets.proofs.union.Reads as union
 use Rattle.sets.proofs.difference.Reads as difference
-use Rattle.sets.proofs.empty.Reads as empty
 
 -- what its callees ask and say
 abbrev pub claims : ℕ → lts.Claims
 claims t = (empty.Asked, empty.Learnt, is-empty.Asked, is-empty.Learnt, union.Asked, union.Learnt, image-below t, image.Post, difference.Asked, difference.Learnt)
 
 abbrev pub Inv-loop : lts.InvT-loop
-Inv-loop roll next previous table e course all₀ fresh₀ all fresh =
+Inv-loop roll next previous table known holding e course all₀ fresh₀ all fresh =
     Rounds (length (nodes roll)) (reach (nodes roll) (facing course (pathAt (entries table) e))) fresh₀ all fresh
 
 abbrev pub μ-loop : lts.MeasureT-loop
-μ-loop roll next previous table e course all₀ fresh₀ all fresh = 4096 - sizeOf all
+μ-loop roll next previous table known holding e course all₀ fresh₀ all fresh = 4096 - sizeOf all
 
 module _ (t : ℕ) where
   -- at the loop's head: what the function was given
@@ -45,7 +45,7 @@ module _ (t : ℕ) where
     abbrev start : lts.Start (claims t) (by-rounds-at t) by-rounds.Post Inv-loop μ-loop
     start = c .before .before .before .before
 
-    given : Grounds (now (start .args .roll)) (now (start .args .table)) (now (start .args .next)) (now (start .args .previous))
+    given : Knowing (now (start .args .roll)) (now (start .args .table)) (now (start .args .next)) (now (start .args .prior)) (start .args .known) (now (start .args .held))
     given = start .pre .1 .0
 
     asked : Asked (now (start .args .roll)) (now (start .args .table)) path (start .args .e) (start .args .from)
@@ -67,7 +67,7 @@ module _ (t : ℕ) where
   image-requires c κs =
       let head = c .before .before .before in
       let asks = asked head in
-      (omega (arith, start head .pre .0), (given head, record { within = asks .within; sort = asks .sort; nodes-only = λ k x. head .loop .inv .nodes-only k (inr x) }))
+      (omega (arith, start head .pre .0), (given head, record { entry = asks .entry; nodes-only = λ k x. head .loop .inv .nodes-only k (inr x) }))
 
   pub difference-requires : lts.Need-difference-requires (claims t) (by-rounds-at t) by-rounds.Post Inv-loop μ-loop
   difference-requires c κs = search needs
@@ -77,7 +77,7 @@ module _ (t : ℕ) where
       let united = c .before .before in
       let tested = united .before .before in
       let some = test-failed (tested .is-empty .result) (tested .is-empty .ensures) (united .before .if1 .taken) in
-      let most = roll-most (given (tested .before) .roll-right) in
+      let most = roll-most (given (tested .before) .grounds .roll-right) in
       let more = round-adds (tested .before .loop .inv) most some (united .union .ensures) in
       omega (arith, size-most (united .union .result))
 
@@ -85,7 +85,7 @@ module _ (t : ℕ) where
   loop-again c =
       let united = c .before .before in
       let head = united .before .before .before in
-      next-round (head .loop .inv) (walk-stays _ (roll-in-order (given head .roll-right)) _) (united .union .ensures) (c .before .image .ensures) (c .difference .ensures)
+      next-round (head .loop .inv) (walk-stays _ (roll-in-order (given head .grounds .roll-right)) _) (united .union .ensures) (c .before .image .ensures) (c .difference .ensures)
 
   pub returns : lts.Need-returns (claims t) (by-rounds-at t) by-rounds.Post Inv-loop μ-loop
   unfolding reach

@@ -1,0 +1,81 @@
+-- `filter_last`, as a member of the cycle of calls: the first step is taken, the filter is asked of a set that covers the star from there,
+-- and it holds at the end. Assumes nothing.
+use Prim.Native.Nat.{ℕ, _*_, _<_}
+use native.Mathlib.Omega.{arith}
+use mathlib.Core.List.{List}
+use borrow.Author.Needs.{needs}
+use denote.Ref.{now}
+use lib.ListN.{length}
+use Rattle.tree.specs.Tree.{Tree}
+use Rattle.roll.specs.Roll.{nodes, Roll}
+use Rattle.roll.proofs.Deciding.{roll-in-order, roll-most}
+use Rattle.query.specs.Kind.{path}
+use Rattle.query.specs.Meaning.{Star}
+use Rattle.sets.specs.Sets.{Image, Inside}
+use Rattle.links.specs.Links.{Siblings}
+use Rattle.steps.specs.Axis.{AlongAny}
+use Rattle.evaluator.specs.Evaluator.{Knowing, Asked}
+use Rattle.evaluator.proofs.Filtered.{filtered-last}
+use Rattle.evaluator.proofs.Images.{image-inside, image-star}
+use Rattle.evaluator.proofs.Stepping.{steps-stay, step-from}
+use Rattle.evaluator.proofs.+by_rounds+filter_first+filter_last+image+narrow+of_two+star.Proof.Measures.{filter-last-at, image-below}
+use Rattle.evaluator.proofs.+by_rounds+filter_first+filter_last+image+narrow+of_two+star.Lts-filter_last as lts
+use Rattle.evaluator.proofs.image.Reads as image
+use Rattle.evaluator.proofs.filter_last.Reads as filter-last
+use Rattle.steps.proofs.step.Reads as step
+use Rattle.evaluator.proofs.cover.cover.Reads as cover
+use Rattle.steps.proofs.closure.Reads as closure
+use Rattle.sets.proofs.common.Reads as common
+use Rattle.sets.proofs.union.Reads as union
+
+-- what its callees ask and say
+abbrev pub claims : ℕ → lts.Claims
+claims t = (step.Asked, step.Learnt, cover.Asked, cover.Learnt, image-below t, image.Post, closure.Asked, closure.Learnt, common.Asked, common.Learnt, union.Asked, union.Learnt)
+
+module _ (t : ℕ) where
+  -- what it was given
+  module _ (c : lts.Start (claims t) (filter-last-at t) filter-last.Post) where
+    abbrev tree : Tree
+    tree = nodes (now (c .args .roll))
+
+    given : Knowing (now (c .args .roll)) (now (c .args .table)) (now (c .args .next)) (now (c .args .prior)) (c .args .known) (now (c .args .held))
+    given = c .pre .1 .0 .0
+
+    asked : Asked (now (c .args .roll)) (now (c .args .table)) path (c .args .e) (c .args .from)
+    asked = c .pre .1 .0 .1
+
+    rolled : Roll (now (c .args .roll)) × Siblings tree (now (c .args .next)) (now (c .args .prior))
+    rolled = (given .grounds .roll-right, given .grounds .links)
+
+  pub step-requires : lts.Need-step-requires (claims t) (filter-last-at t) filter-last.Post
+  step-requires c κs = rolled (c .before .before)
+
+  pub cover-requires : lts.Need-cover-requires (claims t) (filter-last-at t) filter-last.Post
+  cover-requires c κs =
+      let s = c .before .before .before in
+      let g = given s .grounds .roll-right in
+      (rolled s, image-inside (steps-stay (roll-in-order g) (roll-most g)) (asked s .nodes-only) (c .step .ensures))
+
+  pub image-requires : lts.Need-image-requires (claims t) (filter-last-at t) filter-last.Post
+  image-requires c κs =
+      let s = c .before .before .before .before in
+      (omega (arith, s .pre .0), (given s, record { entry = asked s .entry; nodes-only = c .cover .ensures .1 }))
+
+  pub closure-requires : lts.Need-closure-requires (claims t) (filter-last-at t) filter-last.Post
+  closure-requires c κs = rolled (c .before .before .before .before .before)
+
+  pub common-requires : lts.Need-common-requires (claims t) (filter-last-at t) filter-last.Post
+  common-requires c κs = search needs
+
+  pub union-requires : lts.Need-union-requires (claims t) (filter-last-at t) filter-last.Post
+  union-requires c κs = search needs
+
+  pub returns : lts.Need-returns (claims t) (filter-last-at t) filter-last.Post
+  returns c =
+      let ends = c .before .before in
+      let held = ends .before in
+      let covered = held .before in
+      let begun = covered .before in
+      let s = begun .before .before .before in
+      filtered-last (s .pre .1 .1 (tree s)) (begun .step .ensures) (covered .cover .ensures .0) (held .image .ensures)
+      (image-star step-from (ends .closure .ensures)) (c .before .common .ensures) (c .union .ensures)

@@ -1,0 +1,224 @@
+-- `image`, as a member of the cycle of calls: an arm for each kind of path, whose operands are asked in their turn.
+-- Assumes nothing.
+use Prim.Native.Nat.{ℕ, _*_, _≤_, _<_}
+use native.Mathlib.Nat.{lt-irrefl, lt-of-lt-of-le}
+use native.Mathlib.Omega.{arith}
+use mathlib.Core.Path.{_≡_, sym, subst, _∙_}
+use mathlib.Core.Logic.{Iff·symm, Iff·trans}
+use mathlib.Core.List.{List}
+use borrow.Author.Needs.{needs}
+use denote.Ref.{now}
+use lib.ListN.{length}
+use lib.Dec.{T}
+use Rattle.tree.specs.Tree.{Tree}
+use Rattle.roll.specs.Roll.{nodes}
+use Rattle.roll.proofs.Deciding.{roll-in-order}
+use Rattle.query.specs.Syntax.{Path}
+use Rattle.query.specs.Kind.{Sort, path, of}
+use Rattle.query.specs.Meaning.{reach}
+use Rattle.query.specs.Table.{entries, OperandField, pathAt}
+use Rattle.query.proofs.Standing.{path-kind}
+use Rattle.sets.specs.Sets.{Image, Inside}
+use Rattle.evaluator.specs.declared.course.Course.{Course}
+use Rattle.evaluator.specs.declared.course.Course.the-variants.{Forwards, Backwards, Freely}
+use Rattle.evaluator.specs.Course.{firstOf}
+use Rattle.evaluator.specs.Evaluator.{Knowing, Asked}
+use Rattle.evaluator.proofs.Images.{Stays, image-empty, image-inside, image-same, image-then}
+use Rattle.evaluator.proofs.Operands.{Read, none-behind, operand, operand-below, is-self, is-axis, is-stay, is-then, is-either, is-star}
+use Rattle.evaluator.proofs.Walks.{walk-stays, walk-self, walk-free, walk-stay, walk-either, walk-star, then-parts}
+use Rattle.evaluator.proofs.+by_rounds+filter_first+filter_last+image+narrow+of_two+star.Proof.Measures.{image-at, narrow-below, image-below, star-below}
+use Rattle.evaluator.proofs.+by_rounds+filter_first+filter_last+image+narrow+of_two+star.Lts-image as lts
+use Rattle.evaluator.proofs.narrow.Reads as narrow
+use Rattle.evaluator.proofs.image.Reads as image
+use Rattle.evaluator.proofs.star.Reads as star
+use Rattle.sets.proofs.is_empty.Reads as is-empty
+use Rattle.tables.proofs.entry.entry_at.Reads as entry-at
+use Rattle.evaluator.proofs.course.is_free.Reads as is-free
+use Rattle.evaluator.proofs.course.first_of.Reads as first-of
+use Rattle.sets.proofs.union.Reads as union
+use Rattle.evaluator.proofs.course.axis_of.Reads as axis-of
+use Rattle.evaluator.proofs.course.way.Reads as way
+use Rattle.steps.proofs.only.Reads as only
+use Rattle.steps.proofs.step.Reads as step
+
+-- what its callees ask and say
+abbrev pub claims : ℕ → lts.Claims
+claims t = (is-empty.Asked, is-empty.Learnt, entry-at.Asked, entry-at.Learnt, is-free.Asked, is-free.Learnt, narrow-below t, narrow.Post, first-of.Asked, first-of.Learnt, image-below t, image.Post, union.Asked, union.Learnt, star-below t, star.Post, axis-of.Asked, axis-of.Learnt, way.Asked, way.Learnt, only.Asked, only.Learnt, step.Asked, step.Learnt)
+
+module _ (t : ℕ) where
+  pub is-empty-requires : lts.Need-is-empty-requires (claims t) (image-at t) image.Post
+  is-empty-requires c κs = search needs
+
+  pub returns : lts.Need-returns (claims t) (image-at t) image.Post
+  returns c = image-empty (c .before .is-empty .ensures .0 (subst T (sym (c .if1 .taken)) tt))
+
+  pub entry-at-requires : lts.Need-entry-at-requires (claims t) (image-at t) image.Post
+  entry-at-requires c κs = search needs
+
+  -- the entry is read: what the function was given, and what it has read
+  module _ (c : lts.After-entry-at (claims t) (image-at t) image.Post) where
+    abbrev start : lts.Start (claims t) (image-at t) image.Post
+    start = c .before .before .before .before .before
+
+    abbrev tree : Tree
+    tree = nodes (now (start .args .roll))
+
+    given : Knowing (now (start .args .roll)) (now (start .args .table)) (now (start .args .next)) (now (start .args .prior)) (start .args .known) (now (start .args .held))
+    given = start .pre .1 .0
+
+    inside : Inside (length tree) (start .args .from)
+    inside = start .pre .1 .1 .nodes-only
+
+    read : Read (now (start .args .table)) path (start .args .e) (c .entry-at .result)
+    read = record { order = given .grounds .each; entry = start .pre .1 .1 .entry; fields = c .entry-at .ensures }
+
+    measured : 4 * start .args .e ≡ t
+    measured = start .pre .0
+
+    -- an operand can be asked of a set of nodes in a call of its own
+    abbrev Callable : Sort → ℕ → List ℕ → Type 0
+    Callable o x set =
+        (4 * x < t) × (Knowing (now (start .args .roll)) (now (start .args .table)) (now (start .args .next)) (now (start .args .prior)) (start .args .known) (now (start .args .held))
+        × Asked (now (start .args .roll)) (now (start .args .table)) o x set)
+
+    ask : {o : Sort} {x : ℕ} {set : List ℕ} → OperandField (entries (now (start .args .table))) (start .args .e) (of o) x → Inside (length tree) set → Callable o x set
+    ask = operand-below given (read .entry) measured
+
+    stays : (p : Path) → Stays (length tree) (reach tree p)
+    stays p = walk-stays tree (roll-in-order (given .grounds .roll-right)) p
+
+  -- one step along an axis
+  pub axis-of-requires : lts.Need-axis-of-requires (claims t) (image-at t) image.Post
+  axis-of-requires c κs = search needs
+
+  pub way-requires : lts.Need-way-requires (claims t) (image-at t) image.Post
+  way-requires c κs = search needs
+
+  pub only-requires : lts.Need-only-requires (claims t) (image-at t) image.Post
+  only-requires c κs = search needs
+
+  pub step-requires : lts.Need-step-requires (claims t) (image-at t) image.Post
+  step-requires c κs = let g = given (c .before .before .before .before .before .before) in (g .grounds .roll-right, g .grounds .links)
+
+  pub returns-7 : lts.Need-returns-7 (claims t) (image-at t) image.Post
+  returns-7 c =
+      let alone = c .before in
+      let turned = alone .before in
+      let found = turned .before in
+      let k = found .before .before .before .before in
+      rw (is-axis (read k) (found .axis-of .ensures))
+      (image-same (λ i j. Iff·trans (alone .only .ensures (tree k) i j) (turned .way .ensures (tree k) i j)) (c .step .ensures))
+
+  -- stay if the filter holds, or where it is taken to hold
+  pub is-free-requires : lts.Need-is-free-requires (claims t) (image-at t) image.Post
+  is-free-requires c κs = search needs
+
+  pub returns-2 : lts.Need-returns-2 (claims t) (image-at t) image.Post
+  returns-2 c =
+      let tested = c .before in
+      let k = tested .before .before in
+      rw (is-stay (read k) (tested .before .match .keys1) .1)
+      (walk-free (tree k) (start k .args .course) _ (sym (tested .is-free .ensures) ∙ c .if2 .taken))
+
+  pub narrow-requires : lts.Need-narrow-requires (claims t) (image-at t) image.Post
+  narrow-requires c κs =
+      let k = c .before .before .before in
+      ask k (is-stay (read k) (c .before .before .match .keys1) .0) (inside k)
+
+  pub returns-3 : lts.Need-returns-3 (claims t) (image-at t) image.Post
+  returns-3 c =
+      let tested = c .before .before in
+      let k = tested .before .before in
+      rw (is-stay (read k) (tested .before .match .keys1) .1)
+      (walk-stay (tree k) (start k .args .course) _ (sym (tested .is-free .ensures) ∙ c .before .if2 .left) (c .narrow .ensures))
+
+  -- left, then right, or the other way round: what comes first is asked of the set, and what comes second of what that reaches
+  first-asked : (c : lts.After-entry-at (claims t) (image-at t) image.Post) {set : List ℕ} → c .entry-at .result .kind ≡ 7 → Inside (length (tree c)) set
+      → (course : Course)
+      → Callable c path (firstOf course (c .entry-at .result .left) (c .entry-at .result .right)) set
+      × Callable c path (firstOf course (c .entry-at .result .right) (c .entry-at .result .left)) set
+  first-asked c is within Forwards = let (l, r) = is-then (read c) is .0 in (ask c l within, ask c r within)
+  first-asked c is within Backwards = let (l, r) = is-then (read c) is .0 in (ask c r within, ask c l within)
+  first-asked c is within Freely = let (l, r) = is-then (read c) is .0 in (ask c l within, ask c r within)
+
+  pub first-of-requires : lts.Need-first-of-requires (claims t) (image-at t) image.Post
+  first-of-requires c κs = search needs
+
+  pub image-requires : lts.Need-image-requires (claims t) (image-at t) image.Post
+  image-requires c κs =
+      let one = c .before in
+      let m = one .before in
+      let k = m .before in
+      rw (one .first-of .ensures) (first-asked k (m .match .keys2) (inside k) (start k .args .course) .0)
+
+  pub first-of-requires-2 : lts.Need-first-of-requires-2 (claims t) (image-at t) image.Post
+  first-of-requires-2 c κs = search needs
+
+  pub image-requires-2 : lts.Need-image-requires-2 (claims t) (image-at t) image.Post
+  image-requires-2 c κs =
+      let two = c .before in
+      let m = two .before .before in
+      let k = m .before in
+      rw (two .first-of2 .ensures)
+      (first-asked k (m .match .keys2) (image-inside (stays k _) (inside k) (c .image .ensures)) (start k .args .course) .1)
+
+  pub returns-4 : lts.Need-returns-4 (claims t) (image-at t) image.Post
+  returns-4 c =
+      let half = c .before in
+      let two = half .before in
+      let one = two .before in
+      let k = one .before .before in
+      let es = entries (now (start k .args .table)) in
+      let first = rw (one .first-of .ensures) at (half .image .ensures) in
+      let second = rw (two .first-of2 .ensures) at (c .image2 .ensures) in
+      rw (is-then (read k) (one .before .match .keys2) .1)
+      (image-same (λ i j. Iff·symm (then-parts (pathAt es) (start k .args .course) _ _ (tree k) i j)) (image-then first second))
+
+  -- left or right
+  pub image-requires-3 : lts.Need-image-requires-3 (claims t) (image-at t) image.Post
+  image-requires-3 c κs =
+      let k = c .before in
+      ask k (is-either (read k) (c .match .keys3) .0 .0) (inside k)
+
+  pub image-requires-4 : lts.Need-image-requires-4 (claims t) (image-at t) image.Post
+  image-requires-4 c κs =
+      let k = c .before .before in
+      ask k (is-either (read k) (c .before .match .keys3) .0 .1) (inside k)
+
+  pub union-requires : lts.Need-union-requires (claims t) (image-at t) image.Post
+  union-requires c κs = search needs
+
+  pub returns-5 : lts.Need-returns-5 (claims t) (image-at t) image.Post
+  returns-5 c =
+      let other = c .before in
+      let one = other .before in
+      let k = one .before .before in
+      rw (is-either (read k) (one .before .match .keys3) .1)
+      (walk-either (tree k) _ _ (start k .args .course) (one .image3 .ensures) (other .image4 .ensures) (c .union .ensures))
+
+  -- zero or more times
+  pub star-requires : lts.Need-star-requires (claims t) (image-at t) image.Post
+  star-requires c κs =
+      let k = c .before in
+      operand (given k) (read k .entry) (measured k) (is-star (read k) (c .match .keys4) .0) (inside k)
+
+  pub returns-6 : lts.Need-returns-6 (claims t) (image-at t) image.Post
+  returns-6 c =
+      let k = c .before .before in
+      rw (is-star (read k) (c .before .match .keys4) .1) (walk-star (tree k) (start k .args .course) _ (c .star .ensures))
+
+  -- self is the one path that is left, and none is behind 9
+  numbers : (c : lts.After-entry-at (claims t) (image-at t) image.Post) → (1 ≤ c .entry-at .result .kind) × (c .entry-at .result .kind ≤ 9)
+  numbers c = rw (read c .fields .kind) (path-kind (entries (now (start c .args .table))) (start c .args .e) (read c .entry .sort))
+
+  pub returns-8 : lts.Need-returns-8 (claims t) (image-at t) image.Post
+  returns-8 c =
+      let k = c .before .before in
+      rw (is-self (read k) (omega (arith, numbers k))) (walk-self (tree k) (start k .args .course))
+
+  pub returns-9 : lts.Need-returns-9 (claims t) (image-at t) image.Post
+  returns-9 c =
+      let rest = c .before .before in
+      let left = rest .match .rest in
+      let low = none-behind (numbers (rest .before) .1) (left .0 .0 .0 .1) (left .0 .0 .1) (left .0 .1) (left .1) in
+      absurd (lt-irrefl _ (lt-of-lt-of-le low (c .if4 .left)))

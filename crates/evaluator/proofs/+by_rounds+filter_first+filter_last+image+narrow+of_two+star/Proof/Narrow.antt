@@ -1,0 +1,204 @@
+-- `narrow`, as a member of the cycle of calls: an arm for each kind of filter, whose operands are asked in their turn.
+-- Assumes nothing.
+use Prim.Native.Nat.{ℕ, _*_, _<_}
+use native.Mathlib.Omega.{arith}
+use mathlib.Core.Path.{_≡_, sym, subst}
+use mathlib.Core.List.{List}
+use borrow.Author.Needs.{needs}
+use denote.Ref.{now}
+use lib.ListN.{length}
+use lib.Dec.{T}
+use Rattle.tree.specs.Tree.{Tree}
+use Rattle.roll.specs.Roll.{nodes}
+use Rattle.roll.proofs.Deciding.{roll-in-order}
+use Rattle.query.specs.Syntax.{Path}
+use Rattle.query.specs.Kind.{Sort, filter, of}
+use Rattle.query.specs.Meaning.{reach, holds}
+use Rattle.query.specs.Table.{entries, OperandField, pathAt, filterAt}
+use Rattle.query.proofs.Standing.{filter-kind}
+use Rattle.query.proofs.Turn.{turn-right, free-reaches}
+use Rattle.sets.specs.Sets.{Inside}
+use Rattle.evaluator.specs.Evaluator.{Knowing, Asked}
+use Rattle.evaluator.proofs.Images.{Stays, image-inside, narrowed-inside}
+use Rattle.evaluator.proofs.Filters.{narrow-empty, narrow-known, narrow-always, narrow-never, narrow-leads, narrow-not, narrow-and, narrow-or}
+use Rattle.evaluator.proofs.Operands.{Read, operand-below, is-labelled, is-leads, is-always, is-never, is-not, is-and, is-or}
+use Rattle.evaluator.proofs.Walks.{walk-stays}
+use Rattle.evaluator.proofs.+by_rounds+filter_first+filter_last+image+narrow+of_two+star.Proof.Measures.{narrow-at, image-below, narrow-below}
+use Rattle.evaluator.proofs.+by_rounds+filter_first+filter_last+image+narrow+of_two+star.Lts-narrow as lts
+use Rattle.evaluator.proofs.image.Reads as image
+use Rattle.evaluator.proofs.narrow.Reads as narrow
+use Rattle.sets.proofs.is_empty.Reads as is-empty
+use Rattle.sets.proofs.common.Reads as common
+use Rattle.tables.proofs.entry.entry_at.Reads as entry-at
+use Rattle.steps.proofs.labelled.Reads as labelled
+use Rattle.sets.proofs.difference.Reads as difference
+use Rattle.sets.proofs.union.Reads as union
+use Rattle.sets.proofs.empty.Reads as empty
+
+-- what its callees ask and say
+abbrev pub claims : ℕ → lts.Claims
+claims t = (is-empty.Asked, is-empty.Learnt, common.Asked, common.Learnt, entry-at.Asked, entry-at.Learnt, labelled.Asked, labelled.Learnt, image-below t, image.Post, narrow-below t, narrow.Post, difference.Asked, difference.Learnt, union.Asked, union.Learnt, empty.Asked, empty.Learnt)
+
+module _ (t : ℕ) where
+  pub is-empty-requires : lts.Need-is-empty-requires (claims t) (narrow-at t) narrow.Post
+  is-empty-requires c κs = search needs
+
+  pub returns : lts.Need-returns (claims t) (narrow-at t) narrow.Post
+  returns c = narrow-empty (c .before .is-empty .ensures .0 (subst T (sym (c .if1 .taken)) tt))
+
+  -- where the filter holds is known
+  pub common-requires : lts.Need-common-requires (claims t) (narrow-at t) narrow.Post
+  common-requires c κs = search needs
+
+  pub returns-2 : lts.Need-returns-2 (claims t) (narrow-at t) narrow.Post
+  returns-2 c =
+      let same = c .before .before in
+      let start = same .before .before .before .before .before in
+      let entry = start .pre .1 .1 .entry .within in
+      narrow-known (λ e. holds (nodes (now (start .args .roll))) (filterAt (entries (now (start .args .table))) e)) (same .if2 .taken) (start .pre .1 .0 .answer) entry (start .pre .1 .1 .nodes-only) (c .common .ensures)
+
+  pub entry-at-requires : lts.Need-entry-at-requires (claims t) (narrow-at t) narrow.Post
+  entry-at-requires c κs = search needs
+
+  -- the entry is read: what the function was given, and what it has read
+  module _ (c : lts.After-entry-at (claims t) (narrow-at t) narrow.Post) where
+    abbrev start : lts.Start (claims t) (narrow-at t) narrow.Post
+    start = c .before .before .before .before .before .before
+
+    abbrev tree : Tree
+    tree = nodes (now (start .args .roll))
+
+    given : Knowing (now (start .args .roll)) (now (start .args .table)) (now (start .args .next)) (now (start .args .prior)) (start .args .known) (now (start .args .held))
+    given = start .pre .1 .0
+
+    inside : Inside (length tree) (start .args .from)
+    inside = start .pre .1 .1 .nodes-only
+
+    read : Read (now (start .args .table)) filter (start .args .e) (c .entry-at .result)
+    read = record { order = given .grounds .each; entry = start .pre .1 .1 .entry; fields = c .entry-at .ensures }
+
+    measured : 4 * start .args .e ≡ t
+    measured = start .pre .0
+
+    stays : (p : Path) → Stays (length tree) (reach tree p)
+    stays p = walk-stays tree (roll-in-order (given .grounds .roll-right)) p
+
+    ask : {o : Sort} {x : ℕ} {set : List ℕ} → OperandField (entries (now (start .args .table))) (start .args .e) (of o) x → Inside (length tree) set
+        → (4 * x < t) × (Knowing (now (start .args .roll)) (now (start .args .table)) (now (start .args .next)) (now (start .args .prior)) (start .args .known) (now (start .args .held))
+        × Asked (now (start .args .roll)) (now (start .args .table)) o x set)
+    ask = operand-below given (read .entry) measured
+
+  -- label is the given one
+  pub labelled-requires : lts.Need-labelled-requires (claims t) (narrow-at t) narrow.Post
+  labelled-requires c κs = search needs
+
+  pub returns-3 : lts.Need-returns-3 (claims t) (narrow-at t) narrow.Post
+  unfolding holds
+  returns-3 c =
+      let k = c .before .before in
+      rw (is-labelled (read k) (c .before .match .keys1)) (c .labelled .ensures)
+
+  -- left leads somewhere
+  pub image-requires : lts.Need-image-requires (claims t) (narrow-at t) narrow.Post
+  image-requires c κs =
+      let k = c .before in
+      ask k (is-leads (read k) (c .match .keys2) .0) (inside k)
+
+  pub image-requires-2 : lts.Need-image-requires-2 (claims t) (narrow-at t) narrow.Post
+  image-requires-2 c κs =
+      let k = c .before .before in
+      let left = is-leads (read k) (c .before .match .keys2) .0 in
+      let ends = ask k left (image-inside (stays k _) (inside k) (c .image .ensures)) in
+      let asked = ask k left (inside k) in
+      search (ends, asked)
+
+  pub common-requires-2 : lts.Need-common-requires-2 (claims t) (narrow-at t) narrow.Post
+  common-requires-2 c κs = search needs
+
+  pub returns-4 : lts.Need-returns-4 (claims t) (narrow-at t) narrow.Post
+  unfolding holds
+  returns-4 c =
+      let starts = c .before in
+      let ends = starts .before in
+      let k = ends .before .before in
+      let p = pathAt (entries (now (start k .args .table))) (k .entry-at .result .left) in
+      rw (is-leads (read k) (ends .before .match .keys2) .1)
+      (narrow-leads (free-reaches (tree k) p) (turn-right (tree k) p) (ends .image .ensures) (starts .image2 .ensures) (c .common2 .ensures))
+
+  -- true
+  pub returns-5 : lts.Need-returns-5 (claims t) (narrow-at t) narrow.Post
+  unfolding holds
+  returns-5 c = let k = c .before in rw (is-always (read k) (c .match .keys3)) narrow-always
+
+  -- not
+  pub narrow-requires : lts.Need-narrow-requires (claims t) (narrow-at t) narrow.Post
+  narrow-requires c κs =
+      let k = c .before in
+      ask k (is-not (read k) (c .match .keys4) .0) (inside k)
+
+  pub difference-requires : lts.Need-difference-requires (claims t) (narrow-at t) narrow.Post
+  difference-requires c κs = search needs
+
+  pub returns-6 : lts.Need-returns-6 (claims t) (narrow-at t) narrow.Post
+  unfolding holds
+  returns-6 c =
+      let k = c .before .before .before in
+      rw (is-not (read k) (c .before .before .match .keys4) .1) (narrow-not (c .before .narrow .ensures) (c .difference .ensures))
+
+  -- and
+  pub narrow-requires-2 : lts.Need-narrow-requires-2 (claims t) (narrow-at t) narrow.Post
+  narrow-requires-2 c κs =
+      let k = c .before in
+      ask k (is-and (read k) (c .match .keys5) .0 .0) (inside k)
+
+  pub narrow-requires-3 : lts.Need-narrow-requires-3 (claims t) (narrow-at t) narrow.Post
+  narrow-requires-3 c κs =
+      let k = c .before .before in
+      let within = narrowed-inside (inside k) (c .narrow2 .ensures) in
+      ask k (is-and (read k) (c .before .match .keys5) .0 .1) within
+
+  pub returns-7 : lts.Need-returns-7 (claims t) (narrow-at t) narrow.Post
+  unfolding holds
+  returns-7 c =
+      let k = c .before .before .before in
+      rw (is-and (read k) (c .before .before .match .keys5) .1) (narrow-and (c .before .narrow2 .ensures) (c .narrow3 .ensures))
+
+  -- or
+  pub narrow-requires-4 : lts.Need-narrow-requires-4 (claims t) (narrow-at t) narrow.Post
+  narrow-requires-4 c κs =
+      let k = c .before in
+      ask k (is-or (read k) (c .match .keys6) .0 .0) (inside k)
+
+  pub difference-requires-2 : lts.Need-difference-requires-2 (claims t) (narrow-at t) narrow.Post
+  difference-requires-2 c κs = search needs
+
+  pub narrow-requires-5 : lts.Need-narrow-requires-5 (claims t) (narrow-at t) narrow.Post
+  narrow-requires-5 c κs =
+      let k = c .before .before .before in
+      let within = narrowed-inside (inside k) (c .difference2 .ensures) in
+      ask k (is-or (read k) (c .before .before .match .keys6) .0 .1) within
+
+  pub union-requires : lts.Need-union-requires (claims t) (narrow-at t) narrow.Post
+  union-requires c κs = search needs
+
+  pub returns-8 : lts.Need-returns-8 (claims t) (narrow-at t) narrow.Post
+  unfolding holds
+  returns-8 c =
+      let second = c .before in
+      let rest = second .before in
+      let first = rest .before in
+      let k = first .before .before in
+      rw (is-or (read k) (first .before .match .keys6) .1)
+      (narrow-or (first .narrow4 .ensures) (rest .difference2 .ensures) (second .narrow5 .ensures) (c .union .ensures))
+
+  -- false is the one filter that is left
+  pub empty-requires : lts.Need-empty-requires (claims t) (narrow-at t) narrow.Post
+  empty-requires c κs = search needs
+
+  pub returns-9 : lts.Need-returns-9 (claims t) (narrow-at t) narrow.Post
+  unfolding holds
+  returns-9 c =
+      let k = c .before .before in
+      let numbers = rw (← k .entry-at .ensures .kind) at (filter-kind (entries (now (start k .args .table))) (start k .args .e) (read k .entry .sort)) in
+      let is : k .entry-at .result .kind ≡ 19 = omega (arith, numbers, c .before .match .rest) in
+      rw (is-never (read k) is) (narrow-never (c .empty .ensures))

@@ -1,0 +1,146 @@
+-- `of_two`, as a member of the cycle of calls: one of the two is a filter and the other leads along axes, or it goes by rounds.
+-- Assumes nothing.
+use Prim.Native.Nat.{ℕ, _+_, _*_, _<_}
+use native.Mathlib.Omega.{arith}
+use mathlib.Core.Path.{_≡_, sym, _∙_}
+use mathlib.Core.Logic.{Iff·symm, Iff·trans}
+use borrow.Author.Needs.{needs}
+use denote.Ref.{now}
+use Rattle.tree.specs.Tree.{Tree}
+use Rattle.roll.specs.Roll.{nodes}
+use Rattle.query.specs.Kind.{path, of}
+use Rattle.query.specs.Meaning.{reach}
+use Rattle.query.specs.Table.{Entries, entries, entryAt, OperandField, pathAt}
+use Rattle.evaluator.specs.Course.{facing}
+use Rattle.evaluator.specs.Evaluator.{Knowing, Asked, Still}
+use Rattle.evaluator.proofs.Images.{image-star}
+use Rattle.evaluator.proofs.Operands.{Read, operand-within, stays-at, Parts, parts-of}
+use Rattle.evaluator.proofs.Stepping.{then-along, along-then}
+use Rattle.evaluator.proofs.+by_rounds+filter_first+filter_last+image+narrow+of_two+star.Proof.Measures.{of-two-at, filter-first-below, filter-last-below, by-rounds-below}
+use Rattle.evaluator.proofs.+by_rounds+filter_first+filter_last+image+narrow+of_two+star.Lts-of_two as lts
+use Rattle.evaluator.proofs.filter_first.Reads as filter-first
+use Rattle.evaluator.proofs.filter_last.Reads as filter-last
+use Rattle.evaluator.proofs.by_rounds.Reads as by-rounds
+use Rattle.evaluator.proofs.of_two.Reads as of-two
+use Rattle.tables.proofs.entry.entry_at.Reads as entry-at
+use Rattle.evaluator.proofs.course.first_of.Reads as first-of
+use Rattle.tables.proofs.entry.kind_at.Reads as kind-at
+use Rattle.evaluator.proofs.ways.way_of.Reads as way-of
+
+-- what its callees ask and say
+abbrev pub claims : ℕ → lts.Claims
+claims t = (entry-at.Asked, entry-at.Learnt, first-of.Asked, first-of.Learnt, kind-at.Asked, kind-at.Learnt, way-of.Asked, way-of.Learnt, filter-first-below t, filter-first.Post, filter-last-below t, filter-last.Post, by-rounds-below t, by-rounds.Post)
+
+module _ (t : ℕ) where
+  pub entry-at-requires : lts.Need-entry-at-requires (claims t) (of-two-at t) of-two.Post
+  entry-at-requires c κs = search needs
+
+  pub first-of-requires : lts.Need-first-of-requires (claims t) (of-two-at t) of-two.Post
+  first-of-requires c κs = search needs
+
+  pub first-of-requires-2 : lts.Need-first-of-requires-2 (claims t) (of-two-at t) of-two.Post
+  first-of-requires-2 c κs = search needs
+
+  -- the two parts are found
+  module _ (found : lts.After-first-of2 (claims t) (of-two-at t) of-two.Post) where
+    abbrev start : lts.Start (claims t) (of-two-at t) of-two.Post
+    start = found .before .before .before .before .before
+
+    abbrev tree : Tree
+    tree = nodes (now (start .args .roll))
+
+    abbrev es : Entries
+    es = entries (now (start .args .table))
+
+    given : Knowing (now (start .args .roll)) (now (start .args .table)) (now (start .args .next)) (now (start .args .prior)) (start .args .known) (now (start .args .held))
+    given = start .pre .1 .0 .0
+
+    asked : Asked (now (start .args .roll)) (now (start .args .table)) path (start .args .e) (start .args .from)
+    asked = start .pre .1 .0 .1
+
+    -- what is read is a composition
+    read : Read (now (start .args .table)) path (start .args .e) (found .before .before .entry-at .result)
+    read = record { order = given .grounds .each; entry = asked .entry; fields = found .before .before .entry-at .ensures }
+
+    parts : Parts (now (start .args .table)) (start .args .course) (start .args .e) (found .before .first-of .result) (found .first-of2 .result)
+    parts =
+        parts-of read (found .before .before .entry-at .ensures .kind ∙ start .pre .1 .1) (start .args .course) (found .before .first-of .ensures)
+        (found .first-of2 .ensures)
+
+    -- a part that is a filter is asked in a call of its own
+    filtered : {x : ℕ} → OperandField es (start .args .e) (of path) x → entryAt es x .kind ≡ 6
+        → (4 * x + 1 < t)
+        × ((Knowing (now (start .args .roll)) (now (start .args .table)) (now (start .args .next)) (now (start .args .prior)) (start .args .known) (now (start .args .held))
+        × Asked (now (start .args .roll)) (now (start .args .table)) path x (start .args .from))
+        × Still (facing (start .args .course) (pathAt es x)))
+    filtered f is =
+        let (l, w) = operand-within (asked .entry) f in
+        (omega (arith, start .pre .0), ((given, record { entry = w; nodes-only = asked .nodes-only }), stays-at (given .grounds .each) w is (start .args .course)))
+
+  pub kind-at-requires : lts.Need-kind-at-requires (claims t) (of-two-at t) of-two.Post
+  kind-at-requires c κs = tt
+
+  pub way-of-requires : lts.Need-way-of-requires (claims t) (of-two-at t) of-two.Post
+  way-of-requires c κs =
+      let s = c .before .before in
+      (given s .grounds .each, operand-within (asked s .entry) (parts s .other) .1)
+
+  pub enum-known-way : lts.Need-enum-known-way (claims t) (of-two-at t) of-two.Post
+  enum-known-way c = search needs
+
+  pub filter-first-requires : lts.Need-filter-first-requires (claims t) (of-two-at t) of-two.Post
+  filter-first-requires c κs =
+      let tested = c .before .before .before .before in
+      let s = tested .before .before in
+      filtered s (parts s .one) (sym (tested .before .kind-at .ensures) ∙ tested .if1 .taken)
+
+  pub returns : lts.Need-returns (claims t) (of-two-at t) of-two.Post
+  unfolding reach
+  returns c =
+      let told = c .before .before in
+      let found = told .before .before in
+      let s = found .before .before .before in
+      let leads = rw (told .way .given .1) at (found .way-of .ensures) in
+      let p = facing (start s .args .course) (pathAt (es s) (s .before .first-of .result)) in
+      let q = facing (start s .args .course) (pathAt (es s) (s .first-of2 .result)) in
+      image-star (λ i j. Iff·trans (then-along q (reach (tree s) p) leads i j) (Iff·symm (parts s .same (tree s) i j))) (c .filter-first .ensures)
+
+  pub enum-told : lts.Need-enum-told (claims t) (of-two-at t) of-two.Post
+  enum-told c = search needs
+
+  pub kind-at-requires-2 : lts.Need-kind-at-requires-2 (claims t) (of-two-at t) of-two.Post
+  kind-at-requires-2 c κs = tt
+
+  pub way-of-requires-2 : lts.Need-way-of-requires-2 (claims t) (of-two-at t) of-two.Post
+  way-of-requires-2 c κs =
+      let s = c .before .before .before .before in
+      (given s .grounds .each, operand-within (asked s .entry) (parts s .one) .1)
+
+  pub enum-known-way-2 : lts.Need-enum-known-way-2 (claims t) (of-two-at t) of-two.Post
+  enum-known-way-2 c = search needs
+
+  pub filter-last-requires : lts.Need-filter-last-requires (claims t) (of-two-at t) of-two.Post
+  filter-last-requires c κs =
+      let tested = c .before .before .before .before in
+      let s = tested .before .before .before .before in
+      filtered s (parts s .other) (sym (tested .before .kind-at2 .ensures) ∙ tested .if2 .taken)
+
+  pub returns-2 : lts.Need-returns-2 (claims t) (of-two-at t) of-two.Post
+  unfolding reach
+  returns-2 c =
+      let told = c .before .before in
+      let found = told .before .before in
+      let s = found .before .before .before .before .before in
+      let leads = rw (told .way2 .given .1) at (found .way-of2 .ensures) in
+      let p = facing (start s .args .course) (pathAt (es s) (s .before .first-of .result)) in
+      let q = facing (start s .args .course) (pathAt (es s) (s .first-of2 .result)) in
+      image-star (λ i j. Iff·trans (along-then p (reach (tree s) q) leads i j) (Iff·symm (parts s .same (tree s) i j))) (c .filter-last .ensures)
+
+  pub enum-told-2 : lts.Need-enum-told-2 (claims t) (of-two-at t) of-two.Post
+  enum-told-2 c = search needs
+
+  pub by-rounds-requires : lts.Need-by-rounds-requires (claims t) (of-two-at t) of-two.Post
+  by-rounds-requires c κs = let s = c .before .before in (omega (arith, start s .pre .0), (given s, asked s))
+
+  pub returns-3 : lts.Need-returns-3 (claims t) (of-two-at t) of-two.Post
+  returns-3 c = c .by-rounds .ensures

@@ -1,0 +1,105 @@
+-- `star`, as a member of the cycle of calls: along axes each node is gone on from once, and rounds for any other path. Assumes nothing.
+use Prim.Native.Nat.{ℕ, _+_, _*_, _<_}
+use native.Mathlib.Omega.{arith}
+use mathlib.Core.Path.{_≡_, refl, sym, _∙_}
+use borrow.Author.Needs.{needs}
+use denote.Ref.{now}
+use Rattle.tree.specs.Tree.{Tree}
+use Rattle.roll.specs.Roll.{nodes}
+use Rattle.roll.proofs.Deciding.{roll-in-order, roll-most}
+use Rattle.query.specs.Kind.{path}
+use Rattle.query.specs.Meaning.{reach}
+use Rattle.evaluator.specs.Evaluator.{Knowing, Asked}
+use Rattle.evaluator.proofs.Images.{image-star}
+use Rattle.evaluator.proofs.Walks.{walk-star-star}
+use Rattle.evaluator.proofs.Operands.{Read, operand, is-star}
+use Rattle.evaluator.proofs.Stepping.{star-of-steps}
+use Rattle.evaluator.proofs.+by_rounds+filter_first+filter_last+image+narrow+of_two+star.Proof.Measures.{star-at, of-two-below, star-below, by-rounds-below}
+use Rattle.evaluator.proofs.+by_rounds+filter_first+filter_last+image+narrow+of_two+star.Lts-star as lts
+use Rattle.evaluator.proofs.of_two.Reads as of-two
+use Rattle.evaluator.proofs.star.Reads as star
+use Rattle.evaluator.proofs.by_rounds.Reads as by-rounds
+use Rattle.tables.proofs.entry.entry_at.Reads as entry-at
+use Rattle.evaluator.proofs.ways.way_of.Reads as way-of
+use Rattle.sets.proofs.below.Reads as below
+use Rattle.steps.proofs.closure.Reads as closure
+
+-- what its callees ask and say
+abbrev pub claims : ℕ → lts.Claims
+claims t = (entry-at.Asked, entry-at.Learnt, of-two-below t, of-two.Post, star-below t, star.Post, way-of.Asked, way-of.Learnt, below.Asked, below.Learnt, closure.Asked, closure.Learnt, by-rounds-below t, by-rounds.Post)
+
+module _ (t : ℕ) where
+  pub entry-at-requires : lts.Need-entry-at-requires (claims t) (star-at t) star.Post
+  entry-at-requires c κs = search needs
+
+  -- the entry is read: what the function was given, and what it has read
+  module _ (c : lts.After-entry-at (claims t) (star-at t) star.Post) where
+    abbrev start : lts.Start (claims t) (star-at t) star.Post
+    start = c .before .before .before
+
+    abbrev tree : Tree
+    tree = nodes (now (start .args .roll))
+
+    given : Knowing (now (start .args .roll)) (now (start .args .table)) (now (start .args .next)) (now (start .args .prior)) (start .args .known) (now (start .args .held))
+    given = start .pre .1 .0
+
+    asked : Asked (now (start .args .roll)) (now (start .args .table)) path (start .args .e) (start .args .from)
+    asked = start .pre .1 .1
+
+    read : Read (now (start .args .table)) path (start .args .e) (c .entry-at .result)
+    read = record { order = given .grounds .each; entry = asked .entry; fields = c .entry-at .ensures }
+
+  -- one path and then another
+  pub of-two-requires : lts.Need-of-two-requires (claims t) (star-at t) star.Post
+  of-two-requires c κs =
+      let k = c .before in
+      (omega (arith, start k .pre .0), ((given k, asked k), sym (k .entry-at .ensures .kind) ∙ c .match .keys1))
+
+  pub returns : lts.Need-returns (claims t) (star-at t) star.Post
+  returns c = c .of-two .ensures
+
+  -- of a star, what that star reaches
+  pub star-requires : lts.Need-star-requires (claims t) (star-at t) star.Post
+  star-requires c κs =
+      let k = c .before in
+      let (l, more) = operand (given k) (read k .entry) refl (is-star (read k) (c .match .keys2) .0) (asked k .nodes-only) in
+      (omega (arith, start k .pre .0), more)
+
+  pub returns-2 : lts.Need-returns-2 (claims t) (star-at t) star.Post
+  returns-2 c =
+      let k = c .before .before in
+      rw (is-star (read k) (c .before .match .keys2) .1) (walk-star-star (tree k) (start k .args .course) _ (c .star .ensures))
+
+  -- along axes, from each node once
+  pub way-of-requires : lts.Need-way-of-requires (claims t) (star-at t) star.Post
+  way-of-requires c κs = let k = c .before in (given k .grounds .each, asked k .entry)
+
+  pub enum-known-way : lts.Need-enum-known-way (claims t) (star-at t) star.Post
+  enum-known-way c = search needs
+
+  pub below-requires : lts.Need-below-requires (claims t) (star-at t) star.Post
+  below-requires c κs = search needs
+
+  pub closure-requires : lts.Need-closure-requires (claims t) (star-at t) star.Post
+  closure-requires c κs = let g = given (c .before .before .before .before .before .before) in (g .grounds .roll-right, g .grounds .links)
+
+  pub returns-3 : lts.Need-returns-3 (claims t) (star-at t) star.Post
+  unfolding reach
+  returns-3 c =
+      let every = c .before in
+      let told = every .before .before in
+      let found = told .before .before in
+      let k = found .before .before in
+      let g = given k .grounds .roll-right in
+      let leads = rw (told .way .given .1) at (found .way-of .ensures) in
+      image-star (leads (tree k)) (star-of-steps (roll-in-order g) (roll-most g) (every .below .ensures) (c .closure .ensures))
+
+  -- and rounds for any other path
+  pub enum-told : lts.Need-enum-told (claims t) (star-at t) star.Post
+  enum-told c = search needs
+
+  pub by-rounds-requires : lts.Need-by-rounds-requires (claims t) (star-at t) star.Post
+  by-rounds-requires c κs = let k = c .before .before .before .before in (omega (arith, start k .pre .0), (given k, asked k))
+
+  pub returns-4 : lts.Need-returns-4 (claims t) (star-at t) star.Post
+  returns-4 c = c .by-rounds .ensures

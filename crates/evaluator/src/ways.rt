@@ -1,0 +1,51 @@
+// Paths that lead along axes and no further: one step, along one axis or along one of several.
+use crate::course::Course;
+use crate::course::axis_of;
+use crate::course::way;
+use steps::Axes;
+use steps::both;
+use steps::only;
+use tables::entry::entry_at;
+ghost use Rattle.query.specs.Kind.{path};
+ghost use Rattle.query.specs.Syntax as syntax;
+ghost use Rattle.query.specs.Syntax.{Path};
+ghost use Rattle.query.specs.Table.{entries, pathAt};
+ghost use Rattle.evaluator.specs.Course.{facing};
+ghost use Rattle.evaluator.specs.Evaluator.{InOrder, Within};
+ghost use Rattle.evaluator.specs.Ways.{Leads};
+
+pub enum Way {
+    Along(Axes),
+    Otherwise,
+}
+
+// Along the axes of either of two ways, if both lead along axes.
+fn either(one: Way, other: Way) -> Way
+    ensures { λ r. ⌜ ((p q : Path) → Leads p one → Leads q other → Leads (syntax.either p q) r) ⌝ }
+{
+    let Way::Along(a) = one else {
+        return Way::Otherwise;
+    };
+    let Way::Along(b) = other else {
+        return Way::Otherwise;
+    };
+    Way::Along(both(a, b))
+}
+
+// The axes along which the path of entry e leads, if it is one step along an axis or a choice of such steps.
+pub(crate) fn way_of(table: &[u8], e: usize, course: Course) -> Way
+    requires { ⌜ InOrder (now table) × Within (now table) path e ⌝ }
+    ensures { λ r. ⌜ Leads (facing course (pathAt (entries (now (table .entry))) e)) r ⌝ }
+{
+    let entry = entry_at(table, e);
+    let kind = entry.kind;
+    match kind {
+        2 | 3 | 4 | 5 => Way::Along(only(way(axis_of(kind), course))),
+        8 => {
+            let one = way_of(table, entry.left, course);
+            let other = way_of(table, entry.right, course);
+            either(one, other)
+        }
+        _ => Way::Otherwise,
+    }
+}
