@@ -202,6 +202,11 @@ fn filter_first(
     requires { ⌜ Still (facing course (pathAt (entries (now table)) e)) ⌝ }
     ensures { λ r. ⌜ Image (Star (Then (reach (nodes (now (roll .entry))) (facing course (pathAt (entries (now (table .entry))) e))) (AlongAny (nodes (now (roll .entry))) axes))) from r ⌝ }
 {
+    let here = image(roll, next, prior, table, known, held, e, course, from);
+    let reached = step(roll, next, prior, axes, here);
+    if is_empty(difference(reached, from)) {
+        return from;
+    }
     let all = cover(roll, next, prior, table, known, e, axes, from);
     let sources = image(roll, next, prior, table, known, held, e, course, all);
     closure(roll, next, prior, axes, sources, from)
@@ -225,6 +230,10 @@ fn filter_last(
     ensures { λ r. ⌜ Image (Star (Then (AlongAny (nodes (now (roll .entry))) axes) (reach (nodes (now (roll .entry))) (facing course (pathAt (entries (now (table .entry))) e))))) from r ⌝ }
 {
     let begun = step(roll, next, prior, axes, from);
+    let reached = image(roll, next, prior, table, known, held, e, course, begun);
+    if is_empty(difference(reached, from)) {
+        return from;
+    }
     let all = cover(roll, next, prior, table, known, e, axes, begun);
     let sources = image(roll, next, prior, table, known, held, e, course, all);
     let ends = closure(roll, next, prior, axes, sources, begun);

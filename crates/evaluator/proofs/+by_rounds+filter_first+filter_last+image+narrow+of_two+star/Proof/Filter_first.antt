@@ -1,9 +1,11 @@
--- `filter_first`, as a member of the cycle of calls: the filter is asked of a set that covers the star. Assumes nothing.
+-- `filter_first`, as a member of the cycle of calls: one go adds nothing, or the filter is asked of a set that covers the
+-- star. Assumes nothing.
 use Prim.Native.Nat.{ℕ, _*_, _<_}
 use native.Mathlib.Omega.{arith}
-use mathlib.Core.List.{List}
+use mathlib.Core.Path.{sym, subst}
 use borrow.Author.Needs.{needs}
 use denote.Ref.{now}
+use lib.Dec.{T}
 use lib.ListN.{length}
 use Rattle.tree.specs.Tree.{Tree}
 use Rattle.roll.specs.Roll.{nodes, Roll}
@@ -15,18 +17,22 @@ use Rattle.links.specs.Links.{Siblings}
 use Rattle.steps.specs.Axis.{AlongAny}
 use Rattle.evaluator.specs.Evaluator.{Knowing, Asked}
 use Rattle.evaluator.proofs.Filtered.{filtered-first}
-use Rattle.evaluator.proofs.Images.{image-star}
-use Rattle.evaluator.proofs.Stepping.{step-from}
+use Rattle.evaluator.proofs.Images.{image-inside, image-star, image-then}
+use Rattle.evaluator.proofs.Rounds.{no-round}
+use Rattle.evaluator.proofs.Stepping.{steps-stay, step-from}
 use Rattle.evaluator.proofs.+by_rounds+filter_first+filter_last+image+narrow+of_two+star.Proof.Measures.{filter-first-at, image-below}
 use Rattle.evaluator.proofs.+by_rounds+filter_first+filter_last+image+narrow+of_two+star.Lts-filter_first as lts
 use Rattle.evaluator.proofs.image.Reads as image
 use Rattle.evaluator.proofs.filter_first.Reads as filter-first
 use Rattle.evaluator.proofs.cover.cover.Reads as cover
 use Rattle.steps.proofs.closure.Reads as closure
+use Rattle.steps.proofs.step.Reads as step
+use Rattle.sets.proofs.difference.Reads as difference
+use Rattle.sets.proofs.is_empty.Reads as is-empty
 
 -- what its callees ask and say
 abbrev pub claims : ℕ → lts.Claims
-claims t = (cover.Asked, cover.Learnt, image-below t, image.Post, closure.Asked, closure.Learnt)
+claims t = (image-below t, image.Post, step.Asked, step.Learnt, difference.Asked, difference.Learnt, is-empty.Asked, is-empty.Learnt, cover.Asked, cover.Learnt, closure.Asked, closure.Learnt)
 
 module _ (t : ℕ) where
   -- what it was given
@@ -43,19 +49,43 @@ module _ (t : ℕ) where
     rolled : Roll (now (c .args .roll)) × Siblings tree (now (c .args .next)) (now (c .args .prior))
     rolled = (given .grounds .roll-right, given .grounds .links)
 
-  pub cover-requires : lts.Need-cover-requires (claims t) (filter-first-at t) filter-first.Post
-  cover-requires c κs = let s = c .before .before in (rolled s, asked s .nodes-only)
-
+  -- one go from the start
   pub image-requires : lts.Need-image-requires (claims t) (filter-first-at t) filter-first.Post
-  image-requires c κs =
-      let s = c .before .before .before in
+  image-requires c κs = let s = c .before .before in (omega (arith, s .pre .0), (given s, asked s))
+
+  pub step-requires : lts.Need-step-requires (claims t) (filter-first-at t) filter-first.Post
+  step-requires c κs = rolled (c .before .before .before)
+
+  pub difference-requires : lts.Need-difference-requires (claims t) (filter-first-at t) filter-first.Post
+  difference-requires c κs = search needs
+
+  pub is-empty-requires : lts.Need-is-empty-requires (claims t) (filter-first-at t) filter-first.Post
+  is-empty-requires c κs = search needs
+
+  -- adds nothing
+  pub returns : lts.Need-returns (claims t) (filter-first-at t) filter-first.Post
+  returns c =
+      let tested = c .before in
+      let fresh = tested .before in
+      let gone = fresh .before in
+      no-round (image-then (gone .before .image .ensures) (gone .step .ensures)) (fresh .difference .ensures)
+      (tested .is-empty .ensures .0 (subst T (sym (c .if1 .taken)) tt))
+
+  -- or the filter is asked of a set that covers the star
+  pub cover-requires : lts.Need-cover-requires (claims t) (filter-first-at t) filter-first.Post
+  cover-requires c κs = let s = c .before .before .before .before .before .before .before in (rolled s, asked s .nodes-only)
+
+  pub image-requires-2 : lts.Need-image-requires-2 (claims t) (filter-first-at t) filter-first.Post
+  image-requires-2 c κs =
+      let s = c .before .before .before .before .before .before .before .before in
       (omega (arith, s .pre .0), (given s, record { entry = asked s .entry; nodes-only = c .cover .ensures .1 }))
 
   pub closure-requires : lts.Need-closure-requires (claims t) (filter-first-at t) filter-first.Post
-  closure-requires c κs = rolled (c .before .before .before .before)
+  closure-requires c κs = rolled (c .before .before .before .before .before .before .before .before .before)
 
-  pub returns : lts.Need-returns (claims t) (filter-first-at t) filter-first.Post
-  returns c =
+  pub returns-2 : lts.Need-returns-2 (claims t) (filter-first-at t) filter-first.Post
+  returns-2 c =
       let held = c .before in
-      let s = held .before .before .before .before in
-      filtered-first (s .pre .1 .1 (tree s)) (held .before .cover .ensures .0) (held .image .ensures) (image-star step-from (c .closure .ensures))
+      let covered = held .before in
+      let s = covered .before .before .before .before .before .before .before .before in
+      filtered-first (s .pre .1 .1 (tree s)) (covered .cover .ensures .0) (held .image2 .ensures) (image-star step-from (c .closure .ensures))

@@ -2,9 +2,10 @@
 -- and it holds at the end. Assumes nothing.
 use Prim.Native.Nat.{ℕ, _*_, _<_}
 use native.Mathlib.Omega.{arith}
-use mathlib.Core.List.{List}
+use mathlib.Core.Path.{sym, subst}
 use borrow.Author.Needs.{needs}
 use denote.Ref.{now}
+use lib.Dec.{T}
 use lib.ListN.{length}
 use Rattle.tree.specs.Tree.{Tree}
 use Rattle.roll.specs.Roll.{nodes, Roll}
@@ -16,7 +17,8 @@ use Rattle.links.specs.Links.{Siblings}
 use Rattle.steps.specs.Axis.{AlongAny}
 use Rattle.evaluator.specs.Evaluator.{Knowing, Asked}
 use Rattle.evaluator.proofs.Filtered.{filtered-last}
-use Rattle.evaluator.proofs.Images.{image-inside, image-star}
+use Rattle.evaluator.proofs.Images.{image-inside, image-star, image-then}
+use Rattle.evaluator.proofs.Rounds.{no-round}
 use Rattle.evaluator.proofs.Stepping.{steps-stay, step-from}
 use Rattle.evaluator.proofs.+by_rounds+filter_first+filter_last+image+narrow+of_two+star.Proof.Measures.{filter-last-at, image-below}
 use Rattle.evaluator.proofs.+by_rounds+filter_first+filter_last+image+narrow+of_two+star.Lts-filter_last as lts
@@ -25,12 +27,14 @@ use Rattle.evaluator.proofs.filter_last.Reads as filter-last
 use Rattle.steps.proofs.step.Reads as step
 use Rattle.evaluator.proofs.cover.cover.Reads as cover
 use Rattle.steps.proofs.closure.Reads as closure
+use Rattle.sets.proofs.difference.Reads as difference
+use Rattle.sets.proofs.is_empty.Reads as is-empty
 use Rattle.sets.proofs.common.Reads as common
 use Rattle.sets.proofs.union.Reads as union
 
 -- what its callees ask and say
 abbrev pub claims : ℕ → lts.Claims
-claims t = (step.Asked, step.Learnt, cover.Asked, cover.Learnt, image-below t, image.Post, closure.Asked, closure.Learnt, common.Asked, common.Learnt, union.Asked, union.Learnt)
+claims t = (step.Asked, step.Learnt, image-below t, image.Post, difference.Asked, difference.Learnt, is-empty.Asked, is-empty.Learnt, cover.Asked, cover.Learnt, closure.Asked, closure.Learnt, common.Asked, common.Learnt, union.Asked, union.Learnt)
 
 module _ (t : ℕ) where
   -- what it was given
@@ -47,22 +51,50 @@ module _ (t : ℕ) where
     rolled : Roll (now (c .args .roll)) × Siblings tree (now (c .args .next)) (now (c .args .prior))
     rolled = (given .grounds .roll-right, given .grounds .links)
 
+  -- one go from the start
   pub step-requires : lts.Need-step-requires (claims t) (filter-last-at t) filter-last.Post
   step-requires c κs = rolled (c .before .before)
 
-  pub cover-requires : lts.Need-cover-requires (claims t) (filter-last-at t) filter-last.Post
-  cover-requires c κs =
+  -- the first step stays among the nodes
+  begun-inside : (c : lts.After-step (claims t) (filter-last-at t) filter-last.Post) → let s = c .before .before .before in Inside (length (tree s)) (c .step .result)
+  begun-inside c =
       let s = c .before .before .before in
       let g = given s .grounds .roll-right in
-      (rolled s, image-inside (steps-stay (roll-in-order g) (roll-most g)) (asked s .nodes-only) (c .step .ensures))
+      image-inside (steps-stay (roll-in-order g) (roll-most g)) (asked s .nodes-only) (c .step .ensures)
 
   pub image-requires : lts.Need-image-requires (claims t) (filter-last-at t) filter-last.Post
   image-requires c κs =
-      let s = c .before .before .before .before in
+      let s = c .before .before .before in
+      (omega (arith, s .pre .0), (given s, record { entry = asked s .entry; nodes-only = begun-inside c }))
+
+  pub difference-requires : lts.Need-difference-requires (claims t) (filter-last-at t) filter-last.Post
+  difference-requires c κs = search needs
+
+  pub is-empty-requires : lts.Need-is-empty-requires (claims t) (filter-last-at t) filter-last.Post
+  is-empty-requires c κs = search needs
+
+  -- adds nothing
+  pub returns : lts.Need-returns (claims t) (filter-last-at t) filter-last.Post
+  returns c =
+      let tested = c .before in
+      let fresh = tested .before in
+      let gone = fresh .before in
+      no-round (image-then (gone .before .step .ensures) (gone .image .ensures)) (fresh .difference .ensures)
+      (tested .is-empty .ensures .0 (subst T (sym (c .if1 .taken)) tt))
+
+  -- or the filter is asked of a set that covers the star from there
+  pub cover-requires : lts.Need-cover-requires (claims t) (filter-last-at t) filter-last.Post
+  cover-requires c κs =
+      let begun = c .before .before .before .before in
+      (rolled (begun .before .before .before), begun-inside begun)
+
+  pub image-requires-2 : lts.Need-image-requires-2 (claims t) (filter-last-at t) filter-last.Post
+  image-requires-2 c κs =
+      let s = c .before .before .before .before .before .before .before .before in
       (omega (arith, s .pre .0), (given s, record { entry = asked s .entry; nodes-only = c .cover .ensures .1 }))
 
   pub closure-requires : lts.Need-closure-requires (claims t) (filter-last-at t) filter-last.Post
-  closure-requires c κs = rolled (c .before .before .before .before .before)
+  closure-requires c κs = rolled (c .before .before .before .before .before .before .before .before .before)
 
   pub common-requires : lts.Need-common-requires (claims t) (filter-last-at t) filter-last.Post
   common-requires c κs = search needs
@@ -70,12 +102,12 @@ module _ (t : ℕ) where
   pub union-requires : lts.Need-union-requires (claims t) (filter-last-at t) filter-last.Post
   union-requires c κs = search needs
 
-  pub returns : lts.Need-returns (claims t) (filter-last-at t) filter-last.Post
-  returns c =
+  pub returns-2 : lts.Need-returns-2 (claims t) (filter-last-at t) filter-last.Post
+  returns-2 c =
       let ends = c .before .before in
       let held = ends .before in
       let covered = held .before in
-      let begun = covered .before in
+      let begun = covered .before .before .before .before .before in
       let s = begun .before .before .before in
-      filtered-last (s .pre .1 .1 (tree s)) (begun .step .ensures) (covered .cover .ensures .0) (held .image .ensures)
+      filtered-last (s .pre .1 .1 (tree s)) (begun .step .ensures) (covered .cover .ensures .0) (held .image2 .ensures)
       (image-star step-from (ends .closure .ensures)) (c .before .common .ensures) (c .union .ensures)
