@@ -1,5 +1,5 @@
 -- The annotation and the filter table of pairs of labels with their filters' texts, computed. Assumes nothing.
-use Prim.Native.Nat.{ℕ, _+_, _-_, _*_}
+use Prim.Native.Nat.{ℕ, _+_, _-_}
 use mathlib.Core.Path.{_≡_, refl, subst₂}
 use mathlib.Core.Bool.{Bool, false, _&&_}
 use mathlib.Core.List.{List, [], _∷_, _++_, append-nil}
@@ -12,9 +12,9 @@ use Rattle.query.specs.Table.{entryBytes}
 use Rattle.text.specs.Grammar.{FilterText}
 use Rattle.text.specs.Written.{filterEntries}
 use Rattle.reading.proofs.Rules.{got, stopped, FilterReads}
-use Rattle.reading.proofs.Sound.{span, heard-filter}
+use Rattle.reading.proofs.Sound.{span, heard}
 use Rattle.reading.proofs.Deciding as reading
-use Rattle.reading.proofs.Deciding.{Reading, no-steps, readPath, readFilter}
+use Rattle.reading.proofs.Deciding.{Reading, no-steps, readFilter}
 use Rattle.cases.specs.Cases.{Pair, Listed, none, one}
 use Rattle.cases.proofs.Tests.{sameList, sameNumbers, same-numbers}
 
@@ -25,7 +25,7 @@ pub data Listing (n : ℕ) (pairs : List Pair) : Type 0 where
 
 -- a text that is read whole is the filter's
 pub filter-text : {text : Bytes} {f : Filter} → FilterReads 32 0 text (got f []) → FilterText text f
-filter-text d = let s = span (heard-filter d) in rw (s .splits, append-nil) (s .text)
+filter-text d = let s = span (heard d) in rw (s .splits, append-nil) (s .text)
 
 -- one more pair in front, whose filter is f
 inFront : {n m : ℕ} (x : Pair) {more : List Pair} (f : Filter) → FilterText (x .filter) f → m ≡ n + length (filterEntries n f)
@@ -44,7 +44,7 @@ behindFilter n x more rest (reading.read (stopped s b) d) = no-filter
 
 list : (pairs : List Pair) (n : ℕ) → Listing n pairs
 list [] n = bytes [] [] none
-list (x ∷ more) n = behindFilter n x more (list more) (readFilter 32 (8 * length (x .filter) + 8) 0 (x .filter))
+list (x ∷ more) n = behindFilter n x more (list more) (readFilter 32 (x .filter))
 
 -- whether these are the bytes
 sameBytes : {n : ℕ} {pairs : List Pair} → Bytes → Bytes → Listing n pairs → Bool
@@ -60,7 +60,7 @@ same-bytes {n} {pairs} rs es (bytes rs′ es′ l) h =
 
 module _ (pairs : List Pair) (rs es : Bytes) where
   unfoldable pub isListed : Bool
-  unfolding sameBytes list behindFilter inFront readPath sameList
+  unfolding sameBytes list behindFilter inFront readFilter sameList
   isListed = sameBytes rs es (list pairs 0)
 
   pub is-listed : T isListed → Listed 0 pairs rs es

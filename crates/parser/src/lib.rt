@@ -1,5 +1,6 @@
 // The readers of paths and filters, which call each other through brackets. Each reads from the place `at` with `depth` brackets open, and
 // writes the entries of what it reads behind the `count` entries of the table.
+use reading::Bracket;
 use tokens::answer::Parsed;
 use tokens::answer::closed;
 use tokens::answer::passed;
@@ -8,7 +9,6 @@ use tokens::entry::joined;
 use tokens::entry::leaf;
 use tokens::entry::put;
 use tokens::kind::ALWAYS;
-use tokens::kind::Bracket;
 use tokens::kind::LEADS;
 use tokens::kind::NEVER;
 use tokens::kind::NOT;
@@ -24,8 +24,8 @@ use tokens::label::byte_at;
 use tokens::label::labelled;
 use tokens::label::past_nots;
 ghost use mathlib.Core.Path.{_≡_};
-ghost use Prim.Native.Nat.{_<_};
-ghost use lib.ListN.{length, getD};
+ghost use lib.ListN.{getD};
+ghost use Rattle.reading.proofs.Parts.{openingByte};
 ghost use Rattle.tokens.specs.Reading.{Ready, Follows, paths, filters, items, atoms, terms, brackets};
 ghost use Rattle.tokens.specs.Reading.{outerChain, innerChain, chains, links};
 
@@ -148,7 +148,7 @@ fn bracketed(
     count: usize,
     bracket: Bracket,
 ) -> Parsed
-    requires { ⌜ Ready (now text) at (now table) count × (at < length (now text)) ⌝ }
+    requires { ⌜ Ready (now text) at (now table) count × (getD (now text) at 0 ≡ openingByte bracket) ⌝ }
     ensures { λ r. ⌜ Follows (brackets bracket) depth (now (text .entry)) at (now (table .entry)) count r (now (table .exit)) ⌝ }
 {
     if depth >= MOST_OPEN {

@@ -4,15 +4,22 @@ use native.Mathlib.Omega.{arith}
 use native.Mathlib.Decide.{ℕ-discrete, decLe, decLt}
 use mathlib.Core.Path.{_≡_, refl, sym, ap, subst}
 use mathlib.Core.Logic.{_⊎_, inl, inr, ⊎-elim}
-use mathlib.Core.Option.{Option, none, some}
 use mathlib.Core.List.{List, [], _∷_, List·Memᴰ, List·Memᴰ·head, List·Memᴰ·tail, List·Memᴰ·not-nil, List·Memᴰ·cases-cons}
 use lib.ListN.{length}
 use Rattle.reply.specs.Bytes.{Bytes}
-use Rattle.query.specs.Syntax.{Path, self, child, parent, next, previous, stay, then, either, star}
-use Rattle.query.specs.Syntax.{Filter, labelled, leads, always, never, not, and, or}
-use Rattle.reading.proofs.Rules as rules
+use Rattle.query.specs.Syntax.{Path, self, child, parent, next, previous, stay, star}
+use Rattle.query.specs.Syntax.{labelled, leads, always, never, not}
+use Rattle.reading.specs.declared.Chain.{Chain}
+use Rattle.reading.specs.declared.Chain.the-variants as chains
+use Rattle.reading.specs.declared.Bracket.{Bracket}
+use Rattle.reading.specs.declared.Bracket.the-variants as brackets
+use Rattle.reading.proofs.Parts.{Joined, join, joining, inside, openingByte, closingByte}
 use Rattle.reading.proofs.Rules.{Stop, broken, deep, Result, got, stopped, NotAt, atomBytes, termBytes, NoSecond, NoDigit, LabelReads, StarsRead}
-use Rattle.reading.proofs.Rules.{PathReads, PathGoesOn, SequenceReads, SequenceGoesOn, ItemReads, AtomReads, FilterReads, FilterGoesOn, ConjunctionReads, ConjunctionGoesOn, TermReads}
+use Rattle.reading.proofs.Rules.{ChainReads, starts, start-stops, GoesOn, joined, joined-stops, ends}
+use Rattle.reading.proofs.Rules.{LinkReads, sequence, item, item-stops, conjunction, exclamation, exclamation-stops}
+use Rattle.reading.proofs.Rules.{letter-t, letter-f, hash, hash-stops, curly, a-path, a-path-stops}
+use Rattle.reading.proofs.Rules.{AtomReads, dot, letter-v, caret, greater, less, square, square-stops, round, no-atom}
+use Rattle.reading.proofs.Rules.{BracketReads, closed, stays-open, inside-stops, too-deep}
 
 -- a result with its reading, or nothing where the steps allowed are used up
 pub data Reading {A : Type 0} (Reads : Result A → Type 0) : Type 0 where
@@ -31,13 +38,17 @@ carry : {A : Type 0} {S P : Result A → Type 0} → ((r : Result A) → S r →
 carry f no-steps = no-steps
 carry f (read r d) = read r (f r d)
 
+-- a byte that is not x
+other-than : {x c : ℕ} {b : Bytes} → ¬ (c ≡ x) → NotAt (x ∷ []) (c ∷ b)
+other-than n = NotAt.other (λ m. ⊎-elim n List·Memᴰ·not-nil (List·Memᴰ·cases-cons m))
+
 -- whether the next byte is x
 nextIs : (x : ℕ) (b : Bytes) → ((more : Bytes) × (b ≡ x ∷ more)) ⊎ NotAt (x ∷ []) b
 nextIs x [] = inr NotAt.ended
 nextIs x (c ∷ b) =
     elim (ℕ-discrete c x) [
       | yes e ↦ inl (b, ap (λ (y : ℕ). y ∷ b) e)
-      | no n ↦ inr (NotAt.other (λ m. ⊎-elim n List·Memᴰ·not-nil (List·Memᴰ·cases-cons m)))
+      | no n ↦ inr (other-than n)
     ]
 
 -- whether a byte is one of these
@@ -90,125 +101,99 @@ readStars (suc k) p b =
     (λ n. read (got p b) (StarsRead.no-more n))
     (nextIs 42 b)
 
--- what stands behind a joint x, again and again
-behindJoint : {A : Type 0} {S : Bytes → Result A → Type 0} {H : A → Bytes → Result A → Type 0} (G : Bytes → Result A → Type 0) (x : ℕ) (p : A) (b : Bytes)
-    → ((more : Bytes) → Reading (S more)) → ((q : A) (rest : Bytes) → Reading (H q rest))
-    → ((more rest : Bytes) (q : A) (r : Result A) → S more (got q rest) → H q rest r → G (x ∷ more) r)
-    → ((more rest : Bytes) (s : Stop) → S more (stopped s rest) → G (x ∷ more) (stopped s rest))
-    → (NotAt (x ∷ []) b → G b (got p b)) → Reading (G b)
-behindJoint G x p b part on joined stops ends =
-    ⊎-elim
-    (λ (more, e).
-    chain (part more)
-    (λ q rest d. carry (λ r g. subst (λ (y : Bytes). G y r) (sym e) (joined more rest q r d g)) (on q rest))
-    (λ s rest d. read (stopped s rest) (subst (λ (y : Bytes). G y (stopped s rest)) (sym e) (stops more rest s d))))
-    (λ n. read (got p b) (ends n))
-    (nextIs x b)
-
--- what stands in brackets, of which n are open before
-inBrackets : {A B : Type 0} {S : Result A → Type 0} {P : Result B → Type 0} (limit n close : ℕ) (whole : Bytes) (made : A → B)
-    → (n < limit → Reading S)
-    → ((a : A) (more : Bytes) → n < limit → S (got a (close ∷ more)) → P (got (made a) more))
-    → ((a : A) (more : Bytes) → n < limit → S (got a more) → NotAt (close ∷ []) more → P (stopped broken more))
-    → ((s : Stop) (more : Bytes) → n < limit → S (stopped s more) → P (stopped s more))
-    → (limit ≤ n → P (stopped deep whole)) → Reading P
-inBrackets {S = S} limit n close whole made inside closed left stops over =
-    elim (decLt n limit) [
-      | yes l ↦
-          chain (inside l)
-          (λ a more d.
-          ⊎-elim
-          (λ (rest, e). read (got (made a) rest) (closed a rest l (subst (λ (y : Bytes). S (got a y)) e d)))
-          (λ m. read (stopped broken more) (left a more l d m))
-          (nextIs close more))
-          (λ s more d. read (stopped s more) (stops s more l d))
-      | no m ↦ read (stopped deep whole) (over (omega arith))
-    ]
-
 -- the first byte is x, or it is not
 atByte : {A : Type 0} (P : Bytes → Result A → Type 0) (x c : ℕ) (b : Bytes) → (x ≡ x → Reading (P (x ∷ b))) → Reading (P (c ∷ b)) → Reading (P (c ∷ b))
 atByte P x c b here other = elim (ℕ-discrete x c) [ yes e ↦ subst (λ (y : ℕ). Reading (P (y ∷ b))) e (here refl) | no n ↦ other ]
 
+-- a path as a term
+pathAsTerm : {limit n : ℕ} {b : Bytes} → NotAt termBytes b → Reading (ChainReads limit chains.Path n b) → Reading (LinkReads limit chains.Conjunction n b)
+unfolding chain
+pathAsTerm off x = chain x (λ p more d. read (got (leads p) more) (a-path off d)) (λ s more d. read (stopped s more) (a-path-stops off d))
+
+module _ {limit n : ℕ} (k : Bracket) {o : ℕ} (e : o ≡ openingByte k) {b : Bytes} where
+  -- what stands in a bracket is closed by the next byte, or it is not
+  closing : n < limit → (x : Joined (inside k)) (more : Bytes) → ChainReads limit (inside k) (suc n) b (got x more) → Reading (BracketReads limit k n (o ∷ b))
+  closing l x [] d = read (stopped broken []) (stays-open e l d NotAt.ended)
+  closing l x (c ∷ more) d =
+      elim (ℕ-discrete c (closingByte k)) [
+        | yes f ↦ read (got x more) (closed e l d f)
+        | no m ↦ read (stopped broken (c ∷ more)) (stays-open e l d (other-than m))
+      ]
+
+  -- a bracket, where one more may be open
+  inBrackets : (n < limit → Reading (ChainReads limit (inside k) (suc n) b)) → Reading (BracketReads limit k n (o ∷ b))
+  unfolding closing
+  inBrackets within =
+      elim (decLt n limit) [
+        | yes l ↦ chain (within l) (closing l) (λ s more d. read (stopped s more) (inside-stops e l d))
+        | no m ↦ let full : limit ≤ n = omega arith in read (stopped deep (o ∷ b)) (too-deep e full)
+      ]
+
 module _ (limit : ℕ) where
   unfoldable mutual
-    unfolding chain carry nextIs oneOf behindJoint inBrackets atByte readStars readLabel secondDigit ℕ-discrete decLt decLe
+    unfolding chain carry other-than nextIs pathAsTerm oneOf closing inBrackets atByte readStars readLabel secondDigit ℕ-discrete decLt decLe
 
-    pub readPath : (k n : ℕ) (b : Bytes) → Reading (PathReads limit n b)
-    readPath zero n b = no-steps
-    readPath (suc k) n b =
-        chain (readSequence k n b) (λ p more d. carry (λ r e. PathReads.path d e) (pathOn k n p more)) (λ s more d. read (stopped s more) (PathReads.path-stops d))
+    readChain : (c : Chain) (k n : ℕ) (b : Bytes) → Reading (ChainReads limit c n b)
+    readChain c zero n b = no-steps
+    readChain c (suc k) n b =
+        chain (readLink c k n b) (λ x more d. carry (λ r e. starts d e) (goOn c k n x more)) (λ s more d. read (stopped s more) (start-stops d))
 
-    pathOn : (k n : ℕ) (p : Path) (b : Bytes) → Reading (PathGoesOn limit n p b)
-    pathOn zero n p b = no-steps
-    pathOn (suc k) n p b =
-        behindJoint (PathGoesOn limit n p) 124 p b (λ more. readSequence k n more) (λ q rest. pathOn k n (either p q) rest) (λ more rest q r d g. PathGoesOn.bar d g) (λ more rest s d. PathGoesOn.bar-stops d) PathGoesOn.no-bar
+    goOn : (c : Chain) (k n : ℕ) (x : Joined c) (b : Bytes) → Reading (GoesOn limit c n x b)
+    goOn c zero n x b = no-steps
+    goOn c (suc k) n x [] = read (got x []) (ends NotAt.ended)
+    goOn c (suc k) n x (j ∷ b) =
+        elim (ℕ-discrete j (joining c)) [
+          | yes e ↦
+              chain (readLink c k n b)
+              (λ y more d. carry (λ r g. joined e d g) (goOn c k n (join c x y) more))
+              (λ s more d. read (stopped s more) (joined-stops e d))
+          | no m ↦ read (got x (j ∷ b)) (ends (other-than m))
+        ]
 
-    readSequence : (k n : ℕ) (b : Bytes) → Reading (SequenceReads limit n b)
-    readSequence zero n b = no-steps
-    readSequence (suc k) n b =
-        chain (readItem k n b) (λ p more d. carry (λ r e. SequenceReads.sequence d e) (sequenceOn k n p more)) (λ s more d. read (stopped s more) (SequenceReads.sequence-stops d))
-
-    sequenceOn : (k n : ℕ) (p : Path) (b : Bytes) → Reading (SequenceGoesOn limit n p b)
-    sequenceOn zero n p b = no-steps
-    sequenceOn (suc k) n p b =
-        behindJoint (SequenceGoesOn limit n p) 47 p b (λ more. readItem k n more) (λ q rest. sequenceOn k n (then p q) rest) (λ more rest q r d g. SequenceGoesOn.slash d g) (λ more rest s d. SequenceGoesOn.slash-stops d) SequenceGoesOn.no-slash
-
-    readItem : (k n : ℕ) (b : Bytes) → Reading (ItemReads limit n b)
-    readItem zero n b = no-steps
-    readItem (suc k) n b =
-        chain (readAtom k n b) (λ p more d. carry (λ r e. ItemReads.item d e) (readStars k p more)) (λ s more d. read (stopped s more) (ItemReads.item-stops d))
+    readLink : (c : Chain) (k n : ℕ) (b : Bytes) → Reading (LinkReads limit c n b)
+    readLink c zero n b = no-steps
+    readLink chains.Path (suc k) n b = carry (λ r d. sequence d) (readChain chains.Sequence k n b)
+    readLink chains.Sequence (suc k) n b =
+        chain (readAtom k n b) (λ p more d. carry (λ r e. item d e) (readStars k p more)) (λ s more d. read (stopped s more) (item-stops d))
+    readLink chains.Filter (suc k) n b = carry (λ r d. conjunction d) (readChain chains.Conjunction k n b)
+    readLink chains.Conjunction (suc k) n [] = pathAsTerm NotAt.ended (readChain chains.Path k n [])
+    readLink chains.Conjunction (suc k) n (c ∷ b) =
+        atByte (LinkReads limit chains.Conjunction n) 33 c b
+        (λ e. chain (readLink chains.Conjunction k n b) (λ f more d. read (got (not f) more) (exclamation d)) (λ s more d. read (stopped s more) (exclamation-stops d)))
+        (atByte (LinkReads limit chains.Conjunction n) 116 c b (λ e. read (got always b) letter-t)
+        (atByte (LinkReads limit chains.Conjunction n) 102 c b (λ e. read (got never b) letter-f)
+        (atByte (LinkReads limit chains.Conjunction n) 35 c b
+        (λ e. chain (readLabel b) (λ l more d. read (got (labelled l) more) (hash d)) (λ s more d. read (stopped s more) (hash-stops d)))
+        (atByte (LinkReads limit chains.Conjunction n) 123 c b
+        (λ e. carry (λ r d. curly d) (inBrackets brackets.Curly refl (λ l. readChain chains.Filter k (suc n) b)))
+        (⊎-elim (λ m. no-steps) (λ m. pathAsTerm (NotAt.other m) (readChain chains.Path k n (c ∷ b))) (oneOf c termBytes))))))
 
     readAtom : (k n : ℕ) (b : Bytes) → Reading (AtomReads limit n b)
     readAtom zero n b = no-steps
-    readAtom (suc k) n [] = read (stopped broken []) (AtomReads.no-atom NotAt.ended)
+    readAtom (suc k) n [] = read (stopped broken []) (no-atom NotAt.ended)
     readAtom (suc k) n (c ∷ b) =
-        atByte (AtomReads limit n) 46 c b (λ e. read (got self b) AtomReads.dot)
-        (atByte (AtomReads limit n) 118 c b (λ e. read (got child b) AtomReads.letter-v)
-        (atByte (AtomReads limit n) 94 c b (λ e. read (got parent b) AtomReads.caret)
-        (atByte (AtomReads limit n) 62 c b (λ e. read (got next b) AtomReads.greater)
-        (atByte (AtomReads limit n) 60 c b (λ e. read (got previous b) AtomReads.less)
-        (atByte (AtomReads limit n) 91 c b (λ e. inBrackets limit n 93 (91 ∷ b) stay (λ l. readFilter k (suc n) b) (λ f more l d. AtomReads.square l d) (λ f more l d m. AtomReads.square-open l d m) (λ s more l d. AtomReads.square-stops l d) AtomReads.square-deep)
-        (atByte (AtomReads limit n) 40 c b (λ e. inBrackets limit n 41 (40 ∷ b) (λ p. p) (λ l. readPath k (suc n) b) (λ p more l d. AtomReads.round l d) (λ p more l d m. AtomReads.round-open l d m) (λ s more l d. AtomReads.round-stops l d) AtomReads.round-deep)
-        (⊎-elim (λ m. no-steps) (λ m. read (stopped broken (c ∷ b)) (AtomReads.no-atom (NotAt.other m))) (oneOf c atomBytes))))))))
+        atByte (AtomReads limit n) 46 c b (λ e. read (got self b) dot)
+        (atByte (AtomReads limit n) 118 c b (λ e. read (got child b) letter-v)
+        (atByte (AtomReads limit n) 94 c b (λ e. read (got parent b) caret)
+        (atByte (AtomReads limit n) 62 c b (λ e. read (got next b) greater)
+        (atByte (AtomReads limit n) 60 c b (λ e. read (got previous b) less)
+        (atByte (AtomReads limit n) 91 c b
+        (λ e.
+        chain (inBrackets brackets.Square refl (λ l. readChain chains.Filter k (suc n) b))
+        (λ f more d. read (got (stay f) more) (square d)) (λ s more d. read (stopped s more) (square-stops d)))
+        (atByte (AtomReads limit n) 40 c b
+        (λ e. carry (λ r d. round d) (inBrackets brackets.Round refl (λ l. readChain chains.Path k (suc n) b)))
+        (⊎-elim (λ m. no-steps) (λ m. read (stopped broken (c ∷ b)) (no-atom (NotAt.other m))) (oneOf c atomBytes))))))))
 
-    pub readFilter : (k n : ℕ) (b : Bytes) → Reading (FilterReads limit n b)
-    readFilter zero n b = no-steps
-    readFilter (suc k) n b =
-        chain (readConjunction k n b) (λ f more d. carry (λ r e. FilterReads.filter d e) (filterOn k n f more)) (λ s more d. read (stopped s more) (FilterReads.filter-stops d))
+-- as many steps as any text of its length takes: nine for an opening bracket, from a path to a term
+abbrev steps : Bytes → ℕ
+steps text = 9 * length text + 9
 
-    filterOn : (k n : ℕ) (f : Filter) (b : Bytes) → Reading (FilterGoesOn limit n f b)
-    filterOn zero n f b = no-steps
-    filterOn (suc k) n f b =
-        behindJoint (FilterGoesOn limit n f) 43 f b (λ more. readConjunction k n more) (λ g rest. filterOn k n (or f g) rest) (λ more rest g r d e. FilterGoesOn.plus d e) (λ more rest s d. FilterGoesOn.plus-stops d) FilterGoesOn.no-plus
+-- a path's text, and a filter's, read from the front
+unfoldable pub readText : (limit : ℕ) (text : Bytes) → Reading (ChainReads limit chains.Path 0 text)
+unfolding readChain
+readText limit text = readChain limit chains.Path (steps text) 0 text
 
-    readConjunction : (k n : ℕ) (b : Bytes) → Reading (ConjunctionReads limit n b)
-    readConjunction zero n b = no-steps
-    readConjunction (suc k) n b =
-        chain (readTerm k n b) (λ f more d. carry (λ r e. ConjunctionReads.conjunction d e) (conjunctionOn k n f more)) (λ s more d. read (stopped s more) (ConjunctionReads.conjunction-stops d))
-
-    conjunctionOn : (k n : ℕ) (f : Filter) (b : Bytes) → Reading (ConjunctionGoesOn limit n f b)
-    conjunctionOn zero n f b = no-steps
-    conjunctionOn (suc k) n f b =
-        behindJoint (ConjunctionGoesOn limit n f) 38 f b (λ more. readTerm k n more) (λ g rest. conjunctionOn k n (and f g) rest) (λ more rest g r d e. ConjunctionGoesOn.ampersand d e) (λ more rest s d. ConjunctionGoesOn.ampersand-stops d) ConjunctionGoesOn.no-ampersand
-
-    readTerm : (k n : ℕ) (b : Bytes) → Reading (TermReads limit n b)
-    readTerm zero n b = no-steps
-    readTerm (suc k) n [] =
-        chain (readPath k n []) (λ p more d. read (got (leads p) more) (TermReads.a-path NotAt.ended d)) (λ s more d. read (stopped s more) (TermReads.a-path-stops NotAt.ended d))
-    readTerm (suc k) n (c ∷ b) =
-        atByte (TermReads limit n) 33 c b (λ e. chain (readTerm k n b) (λ f more d. read (got (not f) more) (TermReads.exclamation d)) (λ s more d. read (stopped s more) (TermReads.exclamation-stops d)))
-        (atByte (TermReads limit n) 116 c b (λ e. read (got always b) TermReads.letter-t)
-        (atByte (TermReads limit n) 102 c b (λ e. read (got never b) TermReads.letter-f)
-        (atByte (TermReads limit n) 35 c b (λ e. chain (readLabel b) (λ l more d. read (got (labelled l) more) (TermReads.hash d)) (λ s more d. read (stopped s more) (TermReads.hash-stops d)))
-        (atByte (TermReads limit n) 123 c b (λ e. inBrackets limit n 125 (123 ∷ b) (λ f. f) (λ l. readFilter k (suc n) b) (λ f more l d. TermReads.curly l d) (λ f more l d m. TermReads.curly-open l d m) (λ s more l d. TermReads.curly-stops l d) TermReads.curly-deep)
-        (⊎-elim (λ m. no-steps)
-        (λ m.
-        chain (readPath k n (c ∷ b))
-        (λ p more d. read (got (leads p) more) (TermReads.a-path (NotAt.other m) d))
-        (λ s more d. read (stopped s more) (TermReads.a-path-stops (NotAt.other m) d)))
-        (oneOf c termBytes))))))
-
--- a text read from its front, with as many steps as any text of its length takes
-unfoldable pub readText : (limit : ℕ) (text : Bytes) → Reading (PathReads limit 0 text)
-unfolding readPath
-readText limit text = readPath limit (8 * length text + 8) 0 text
+unfoldable pub readFilter : (limit : ℕ) (text : Bytes) → Reading (ChainReads limit chains.Filter 0 text)
+unfolding readChain
+readFilter limit text = readChain limit chains.Filter (steps text) 0 text

@@ -4,7 +4,7 @@ use native.Mathlib.Nat.{le-refl}
 use native.Mathlib.Omega.{arith}
 use mathlib.Core.Path.{_≡_, refl, ap, _∙_}
 use mathlib.Core.Bool.{Bool, true, false}
-use mathlib.Core.List.{[], _∷_, _++_, append-nil}
+use mathlib.Core.List.{[], _∷_, _++_}
 use lib.Dec.{T, eqb, eqb→eq}
 use lib.ListN.{length, getD, take}
 use Rattle.reply.specs.Bytes.{Bytes}
@@ -16,7 +16,7 @@ use Rattle.reading.proofs.Follows.{text-read}
 use Rattle.reading.proofs.NextByte.{digit-opens-nothing, digit-closes-nothing}
 use Rattle.reading.proofs.Machine.{PathPlace, top, in-round, in-filter, FilterPlace, in-square, in-curly, State, start, item, item-read, term, term-read, hash, label, Offers, nothing, ends, on, digit, Digit, dec-digit, Next, stuck, goes, finished, look, ons, atoms, offer, depth, path-depth, filter-depth, Moves, stays, moves}
 use Rattle.reading.proofs.Machine.{behind-filter, behind-term, behind-path}
-use Rattle.reading.proofs.Led.{Led, led, led-path}
+use Rattle.reading.proofs.Led.{Led, led, led-chain}
 
 -- how many brackets a byte opens
 abbrev opens : ℕ → ℕ
@@ -156,24 +156,6 @@ passes {limit} {σ} (moves {τ = τ} {ω = ω} {c = c} {b = b} {more = more} e l
             let h = f .shallow k (omega arith) t in
             omega (arith, how-many-cons opening c (take k (f .front)), how-many-cons closing c (take k (f .front)), step, h)
 
--- where the machine is stuck, no text ends
-never-ends : {A : Type 0} {p : Path} → stuck ≡ finished p → A
-never-ends h = let z : _≡_ {A = ℕ} 0 1 = cc in absurd (omega arith)
-
--- a state in which a text may end has no bracket open
-at-top : (τ : State) {p : Path} → look (offer τ) [] ≡ finished p → depth τ ≡ 0
-at-top (item e t P) h = never-ends h
-at-top (item-read e t top p) h = refl
-at-top (item-read e t (in-round e′ t′ P) p) h = never-ends h
-at-top (item-read e t (in-filter o a (in-square e′ t′ P)) p) h = never-ends h
-at-top (item-read e t (in-filter o a (in-curly o′ a′ F)) p) h = never-ends h
-at-top (term o a F) h = never-ends h
-at-top (term-read o (in-square e t P) f) h = never-ends h
-at-top (term-read o (in-curly o′ a F) f) h = never-ends h
-at-top (hash o a F) h = never-ends h
-at-top (label l o a (in-square e t P)) h = never-ends h
-at-top (label l o a (in-curly o′ a′ F)) h = never-ends h
-
 -- The machine goes to the end of a text of the grammar, and finds its path.
 pub record Reached (s : Bytes) (p : Path) : Type 0 where
   pub state : State
@@ -182,14 +164,7 @@ pub record Reached (s : Bytes) (p : Path) : Type 0 where
 
 -- since the rules read the text, and lead the machine
 pub text-led : {s : Bytes} {p : Path} → PathText s p → Reached s p
-text-led {s} {p} x = go (led-path (text-read (length s) (le-refl (length s)) x) top refl)
+text-led {s} {p} x = go (led-chain (text-read (length s) (le-refl (length s)) x) top refl)
   where
     go : Led (length s) start s (behind-path top) (got p []) → Reached s p
     go (led {τ = τ} m h) = record { state = τ; path = m; found = h .now }
-
--- in a text of the grammar the brackets balance
-pub text-balanced : {s : Bytes} {p : Path} → PathText s p → howMany opening s ≡ howMany closing s
-text-balanced x =
-    let reached = text-led x in
-    let f = passes (reached .path) in
-    rw (f .splits, append-nil) (omega (arith, f .balanced, at-top (reached .state) (reached .found)))

@@ -9,14 +9,17 @@ use Rattle.reply.specs.Bytes.{Bytes}
 use Rattle.query.specs.Syntax.{Path, Filter}
 use Rattle.text.specs.Grammar as grammar
 use Rattle.text.specs.Grammar.{LabelText, PathText, SequenceText, ItemText, AtomText}
-use Rattle.reading.proofs.Rules.{Result, got, NotAt, ended, other, termBytes, NoSecond, too-low, too-high, LabelReads, one-digit, two-digits, StarsRead, one-more, no-more}
+use Rattle.reading.specs.declared.Chain.{Chain}
+use Rattle.reading.specs.declared.Chain.the-variants as chain
+use Rattle.reading.specs.declared.Bracket.{Bracket}
+use Rattle.reading.specs.declared.Bracket.the-variants as bracket
+use Rattle.reading.proofs.Parts.{Joined, join, joining, inside, openingByte, closingByte}
+use Rattle.reading.proofs.Rules.{Result, got, NotAt, ended, other, termBytes, NoSecond, too-low, too-high}
+use Rattle.reading.proofs.Rules.{LabelReads, one-digit, two-digits, StarsRead, one-more, no-more}
+use Rattle.reading.proofs.Rules.{ChainReads, starts, GoesOn, joined, ends, PathReads, ItemReads}
+use Rattle.reading.proofs.Rules.{LinkReads, sequence, item, conjunction, exclamation, letter-t, letter-f, hash, curly, a-path}
+use Rattle.reading.proofs.Rules.{AtomReads, dot, letter-v, caret, greater, less, square, round, BracketReads, closed}
 use Rattle.reading.proofs.NextByte.{apart, absent, not-at}
-use Rattle.reading.proofs.Rules.{PathReads, path, PathGoesOn, bar, no-bar}
-use Rattle.reading.proofs.Rules.{SequenceReads, sequence, SequenceGoesOn, slash, no-slash}
-use Rattle.reading.proofs.Rules.{ItemReads, item, AtomReads, dot, letter-v, caret, greater, less, square, round}
-use Rattle.reading.proofs.Rules.{FilterReads, filter, FilterGoesOn, plus, no-plus}
-use Rattle.reading.proofs.Rules.{ConjunctionReads, conjunction, ConjunctionGoesOn, ampersand, no-ampersand}
-use Rattle.reading.proofs.Rules.{TermReads, exclamation, letter-t, letter-f, hash, curly, a-path}
 
 -- & + ] }, one of which stands behind every term
 abbrev behindBytes : List ℕ
@@ -77,17 +80,34 @@ path-begins : {s : Bytes} {p : Path} → PathText s p → (more : Bytes) → Not
 path-begins (grammar.one-sequence x) more = sequence-begins x more
 path-begins (grammar.bar {u = u} x y) more = rw append-assoc (path-begins x (124 ∷ u ++ more))
 
--- A text of each kind is read as what it stands for, before any rest that cannot be taken for more of it; where the rest may go on, reading goes on there.
-module _ (limit : ℕ) where
-  abbrev PathFollowed : Bytes → Path → Type 0
-  PathFollowed s p =
-      (n : ℕ) (more : Bytes) (r : Result Path) → n + length s ≤ limit → NotAt (42 ∷ []) more → NotAt (47 ∷ []) more
-      → PathGoesOn limit n p more r → PathReads limit n (s ++ more) r
+-- What may stand behind a chain, and is not taken for more of its links.
+abbrev Apart : Chain → Bytes → Type 0
+Apart chain.Path more = NotAt (42 ∷ []) more × NotAt (47 ∷ []) more
+Apart chain.Sequence more = NotAt (42 ∷ []) more
+Apart chain.Filter more = Behind more × NotAt (38 ∷ []) more
+Apart chain.Conjunction more = Behind more
 
-  abbrev SequenceFollowed : Bytes → Path → Type 0
-  SequenceFollowed s p =
-      (n : ℕ) (more : Bytes) (r : Result Path) → n + length s ≤ limit → NotAt (42 ∷ []) more
-      → SequenceGoesOn limit n p more r → SequenceReads limit n (s ++ more) r
+-- the byte that joins them does
+joint-apart : (c : Chain) (b : Bytes) → Apart c (joining c ∷ b)
+joint-apart chain.Path b = (not-at tt, not-at tt)
+joint-apart chain.Sequence b = not-at tt
+joint-apart chain.Filter b = (at-plus, not-at tt)
+joint-apart chain.Conjunction b = at-ampersand
+
+-- and the byte that closes a bracket, which joins no more
+close-apart : (k : Bracket) (b : Bytes) → Apart (inside k) (closingByte k ∷ b) × NotAt (joining (inside k) ∷ []) (closingByte k ∷ b)
+close-apart bracket.Square b = ((at-square, not-at tt), not-at tt)
+close-apart bracket.Round b = ((not-at tt, not-at tt), not-at tt)
+close-apart bracket.Curly b = ((at-curly, not-at tt), not-at tt)
+
+-- A text of each kind is read as what it stands for, before any rest that is apart from it; where the rest may go on, reading goes on there.
+module _ (limit : ℕ) where
+  abbrev ChainFollowed : (c : Chain) → Bytes → Joined c → Type 0
+  ChainFollowed c s x =
+      (n : ℕ) (more : Bytes) (r : Result (Joined c)) → n + length s ≤ limit → Apart c more → GoesOn limit c n x more r → ChainReads limit c n (s ++ more) r
+
+  abbrev LinkFollowed : (c : Chain) → Bytes → Joined c → Type 0
+  LinkFollowed c s x = (n : ℕ) (more : Bytes) → n + length s ≤ limit → Apart c more → LinkReads limit c n (s ++ more) (got x more)
 
   abbrev ItemFollowed : Bytes → Path → Type 0
   ItemFollowed s p = (n : ℕ) (more : Bytes) (r : Result Path) → n + length s ≤ limit → StarsRead p more r → ItemReads limit n (s ++ more) r
@@ -95,34 +115,45 @@ module _ (limit : ℕ) where
   abbrev AtomFollowed : Bytes → Path → Type 0
   AtomFollowed s p = (n : ℕ) (more : Bytes) → n + length s ≤ limit → AtomReads limit n (s ++ more) (got p more)
 
-  abbrev FilterFollowed : Bytes → Filter → Type 0
-  FilterFollowed s f =
-      (n : ℕ) (more : Bytes) (r : Result Filter) → n + length s ≤ limit → Behind more → NotAt (38 ∷ []) more
-      → FilterGoesOn limit n f more r → FilterReads limit n (s ++ more) r
+  -- a first link, and one that is joined to a chain
+  one-link : (c : Chain) (s : Bytes) (x : Joined c) → LinkFollowed c s x → ChainFollowed c s x
+  one-link c s x h n more r l a z = starts (h n more l a) z
 
-  abbrev ConjunctionFollowed : Bytes → Filter → Type 0
-  ConjunctionFollowed s f =
-      (n : ℕ) (more : Bytes) (r : Result Filter) → n + length s ≤ limit → Behind more
-      → ConjunctionGoesOn limit n f more r → ConjunctionReads limit n (s ++ more) r
+  links : (c : Chain) (s u : Bytes) (x y : Joined c) → ChainFollowed c s x → LinkFollowed c u y → ChainFollowed c (s ++ joining c ∷ u) (join c x y)
+  links c s u x y h k n more r l a z =
+      let e = length-append s (joining c ∷ u) in
+      rw append-assoc (h n (joining c ∷ u ++ more) r (omega arith) (joint-apart c (u ++ more)) (joined refl (k n more (omega arith) a) z))
 
-  abbrev TermFollowed : Bytes → Filter → Type 0
-  TermFollowed s f = (n : ℕ) (more : Bytes) → n + length s ≤ limit → Behind more → TermReads limit n (s ++ more) (got f more)
+  -- sequences, items and conjunctions as links
+  sequence-link : (s : Bytes) (p : Path) → ChainFollowed chain.Sequence s p → LinkFollowed chain.Path s p
+  sequence-link s p h n more l a = sequence (h n more (got p more) l (a .0) (ends (a .1)))
+
+  item-link : (s : Bytes) (p : Path) → ItemFollowed s p → LinkFollowed chain.Sequence s p
+  item-link s p h n more l a = h n more (got p more) l (no-more a)
+
+  conjunction-link : (s : Bytes) (f : Filter) → ChainFollowed chain.Conjunction s f → LinkFollowed chain.Filter s f
+  conjunction-link s f h n more l a = conjunction (h n more (got f more) l (a .0) (ends (a .1)))
+
+  -- a bracket
+  enclosed : (k : Bracket) (s : Bytes) (x : Joined (inside k)) → ChainFollowed (inside k) s x → (n : ℕ) (more : Bytes)
+      → n + length (openingByte k ∷ s ++ closingByte k ∷ []) ≤ limit
+      → BracketReads limit k n (openingByte k ∷ (s ++ closingByte k ∷ []) ++ more) (got x more)
+  enclosed k s x h n more l =
+      let e = length-append s (closingByte k ∷ []) in
+      let room : n < limit = omega arith in
+      let rest : Bytes = closingByte k ∷ more in
+      let (around, no-joint) = close-apart k more in
+      rw append-assoc (closed refl room (h (suc n) rest (got x rest) (omega arith) around (ends no-joint)) refl)
 
   -- by induction over the grammar, all kinds at once
-  path-followed : {s : Bytes} {p : Path} → PathText s p → PathFollowed s p
+  path-followed : {s : Bytes} {p : Path} → PathText s p → ChainFollowed chain.Path s p
   path-followed x =
-      elim x as (λ s p y. PathFollowed s p) (λ s p y. SequenceFollowed s p) (λ s p y. ItemFollowed s p) (λ s p y. AtomFollowed s p)
-      (λ s f y. FilterFollowed s f) (λ s f y. ConjunctionFollowed s f) (λ s f y. TermFollowed s f) [
-        | grammar.one-sequence {p = p} (x → h) ↦ λ n more r l a b z. path (h n more (got p more) l a (no-slash b)) z
-        | grammar.bar {s = s} {u = u} {q = q} (x → h) (y → k) ↦
-            λ n more r l a b z.
-            let e = length-append s (124 ∷ u) in
-            rw append-assoc (h n (124 ∷ u ++ more) r (omega arith) (not-at tt) (not-at tt) (bar (k n more (got q more) (omega arith) a (no-slash b)) z))
-        | grammar.one-item {p = p} (x → h) ↦ λ n more r l a z. sequence (h n more (got p more) l (no-more a)) z
-        | grammar.slash {s = s} {u = u} {q = q} (x → h) (y → k) ↦
-            λ n more r l a z.
-            let e = length-append s (47 ∷ u) in
-            rw append-assoc (h n (47 ∷ u ++ more) r (omega arith) (not-at tt) (slash (k n more (got q more) (omega arith) (no-more a)) z))
+      elim x as (λ s p y. ChainFollowed chain.Path s p) (λ s p y. ChainFollowed chain.Sequence s p) (λ s p y. ItemFollowed s p) (λ s p y. AtomFollowed s p)
+      (λ s f y. ChainFollowed chain.Filter s f) (λ s f y. ChainFollowed chain.Conjunction s f) (λ s f y. LinkFollowed chain.Conjunction s f) [
+        | grammar.one-sequence {s = s} {p = p} (x → h) ↦ one-link chain.Path s p (sequence-link s p h)
+        | grammar.bar {s = s} {u = u} {p = p} {q = q} (x → h) (y → k) ↦ links chain.Path s u p q h (sequence-link u q k)
+        | grammar.one-item {s = s} {p = p} (x → h) ↦ one-link chain.Sequence s p (item-link s p h)
+        | grammar.slash {s = s} {u = u} {p = p} {q = q} (x → h) (y → k) ↦ links chain.Sequence s u p q h (item-link u q k)
         | grammar.an-atom (x → h) ↦ λ n more r l z. item (h n more l) z
         | grammar.starred {s = s} (x → h) ↦
             λ n more r l z.
@@ -133,43 +164,22 @@ module _ (limit : ℕ) where
         | grammar.caret ↦ λ n more l. caret
         | grammar.greater ↦ λ n more l. greater
         | grammar.less ↦ λ n more l. less
-        | grammar.square {s = s} {f = f} (x → h) ↦
-            λ n more l.
-            let e = length-append s (93 ∷ []) in
-            let room : n < limit = omega arith in
-            let text = h (suc n) (93 ∷ more) (got f (93 ∷ more)) (omega arith) at-square (not-at tt) (no-plus (not-at tt)) in
-            rw append-assoc (square room text)
-        | grammar.round {s = s} {p = p} (x → h) ↦
-            λ n more l.
-            let e = length-append s (41 ∷ []) in
-            let room : n < limit = omega arith in
-            let text = h (suc n) (41 ∷ more) (got p (41 ∷ more)) (omega arith) (not-at tt) (not-at tt) (no-bar (not-at tt)) in
-            rw append-assoc (round room text)
-        | grammar.one-conjunction {f = f} (x → h) ↦ λ n more r l a b z. filter (h n more (got f more) l a (no-ampersand b)) z
-        | grammar.plus {s = s} {u = u} {g = g} (x → h) (y → k) ↦
-            λ n more r l a b z.
-            let e = length-append s (43 ∷ u) in
-            rw append-assoc (h n (43 ∷ u ++ more) r (omega arith) at-plus (not-at tt) (plus (k n more (got g more) (omega arith) a (no-ampersand b)) z))
-        | grammar.one-term (x → h) ↦ λ n more r l a z. conjunction (h n more l a) z
-        | grammar.ampersand {s = s} {u = u} (x → h) (y → k) ↦
-            λ n more r l a z.
-            let e = length-append s (38 ∷ u) in
-            rw append-assoc (h n (38 ∷ u ++ more) r (omega arith) at-ampersand (ampersand (k n more (omega arith) a) z))
+        | grammar.square {s = s} {f = f} (x → h) ↦ λ n more l. square (enclosed bracket.Square s f h n more l)
+        | grammar.round {s = s} {p = p} (x → h) ↦ λ n more l. round (enclosed bracket.Round s p h n more l)
+        | grammar.one-conjunction {s = s} {f = f} (x → h) ↦ one-link chain.Filter s f (conjunction-link s f h)
+        | grammar.plus {s = s} {u = u} {f = f} {g = g} (x → h) (y → k) ↦ links chain.Filter s u f g h (conjunction-link u g k)
+        | grammar.one-term {s = s} {f = f} (x → h) ↦ one-link chain.Conjunction s f h
+        | grammar.ampersand {s = s} {u = u} {f = f} {g = g} (x → h) (y → k) ↦ links chain.Conjunction s u f g h k
         | grammar.exclamation (x → h) ↦ λ n more l a. exclamation (h n more (omega arith) a)
         | grammar.letter-t ↦ λ n more l a. letter-t
         | grammar.letter-f ↦ λ n more l a. letter-f
         | grammar.hash x ↦ λ n more l a. hash (label-followed x a)
-        | grammar.curly {s = s} {f = f} (x → h) ↦
-            λ n more l a.
-            let e = length-append s (125 ∷ []) in
-            let room : n < limit = omega arith in
-            let text = h (suc n) (125 ∷ more) (got f (125 ∷ more)) (omega arith) at-curly (not-at tt) (no-plus (not-at tt)) in
-            rw append-assoc (curly room text)
+        | grammar.curly {s = s} {f = f} (x → h) ↦ λ n more l a. curly (enclosed bracket.Curly s f h n more l)
         | grammar.a-path {p = p} (x → h) ↦
             λ n more l a.
-            a-path (path-begins x more) (h n more (got p more) l (behind-not-at tt a) (behind-not-at tt a) (no-bar (behind-not-at tt a)))
+            a-path (path-begins x more) (h n more (got p more) l (behind-not-at tt a, behind-not-at tt a) (ends (behind-not-at tt a)))
       ]
 
 -- A whole text is read as its path.
 pub text-read : {s : Bytes} {p : Path} (limit : ℕ) → length s ≤ limit → PathText s p → PathReads limit 0 s (got p [])
-text-read {s} {p} limit l x = rw append-nil at (path-followed limit x 0 [] (got p []) (omega arith) ended ended (no-bar ended))
+text-read {s} {p} limit l x = rw append-nil at (path-followed limit x 0 [] (got p []) (omega arith) (ended, ended) (ends ended))

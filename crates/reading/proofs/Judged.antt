@@ -11,15 +11,15 @@ use Rattle.reply.specs.Bytes.{Bytes}
 use Rattle.query.specs.Syntax.{Path}
 use Rattle.text.specs.Grammar.{PathText}
 use Rattle.text.specs.Written.{tableOf}
-use Rattle.text.specs.Promise.{TextLength, Breaks, opening, closing, howMany, OneTooMany, Fits, TextFault, too-deep, too-large, TextOf}
+use Rattle.text.specs.Promise.{TextLength, Breaks, opening, closing, howMany, OneTooMany, Fits, TextFault, too-deep, TextOf}
 use Rattle.text.specs.Promise as promise
 use Rattle.reading.proofs.Rules.{Result, got, stopped, PathReads}
 use Rattle.reading.proofs.Rules as rules
-use Rattle.reading.proofs.Sound.{Span, bracket, Heard, whole, begun, heard-path}
+use Rattle.reading.proofs.Sound.{Span, bracket, Heard, whole, begun, heard}
 use Rattle.reading.proofs.Machine.{top, State, start, depth, behind-path, Moves}
-use Rattle.reading.proofs.Led.{Here, Led, led, broke, deepened, led-path}
+use Rattle.reading.proofs.Led.{Here, Led, led, broke, deepened, led-chain}
 use Rattle.reading.proofs.Depth.{passes}
-use Rattle.reading.proofs.Place.{path-unique, begins, breaks}
+use Rattle.reading.proofs.Place.{begins, breaks}
 
 -- What is true of a text that is read so.
 pub data Judged (text : Bytes) : Result Path → Type 0 where
@@ -63,7 +63,7 @@ module _ {text : Bytes} where
 
 -- What reading says of a text, by what it comes to.
 pub judged : {text : Bytes} {r : Result Path} → TextLength text → PathReads 32 0 text r → Judged text r
-judged {text} length-right x = go (heard-path x) (led-path x top refl)
+judged {text} length-right x = go (heard x) (led-chain x top refl)
   where
     got-some : {p : Path} {τ : State} (more : Bytes) → Span PathText text p more → Moves 32 start text τ more → Here τ (behind-path top p) more → Judged text (got p more)
     got-some {p} [] v m h = read {p = p} (rw (v .splits, append-nil) (v .text)) (λ k o. let l : k < length text = o .within in none-before m k (omega arith) o)
@@ -78,23 +78,3 @@ module _ {text : Bytes} {p : Path} (length-right : TextLength text) where
   -- a text that is read whole is one of its path, if its table fits
   pub read-whole : Judged text (got p []) → Fits (tableOf p) → TextOf p text
   read-whole (read x shallow) fits = record { length = length-right; path = x; shallow = shallow; fits = fits }
-
-  -- and otherwise its table is too large
-  pub read-too-large : Judged text (got p []) → ¬ Fits (tableOf p) → TextFault text 16 0
-  read-too-large (read x shallow) unfit = too-large length-right x shallow unfit
-
--- a text of a path is read as that path, unless a bracket in it is one too many
-pub read-as : {text : Bytes} {p : Path} {r : Result Path} → TextLength text → PathText text p → ((k : ℕ) → ¬ OneTooMany text k) → PathReads 32 0 text r → r ≡ got p []
-read-as {text} {p} length-right x shallow y = go (judged length-right y)
-  where
-    unbroken : {i : ℕ} → ¬ TextFault text 14 i
-    unbroken (promise.breaks l b s) = b .no-path p x
-
-    undeep : {i : ℕ} → ¬ TextFault text 15 i
-    undeep (too-deep {i = i} l o s b) = shallow i o
-
-    go : {r : Result Path} → Judged text r → r ≡ got p []
-    go (read {p = q} z s) = ap (λ (o : Path). got o []) (path-unique text q p z x)
-    go (not-whole f) = absurd (unbroken f)
-    go (broken f) = absurd (unbroken f)
-    go (deep f) = absurd (undeep f)

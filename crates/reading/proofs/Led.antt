@@ -9,18 +9,23 @@ use Rattle.reply.specs.Bytes.{Bytes}
 use Rattle.query.specs.Syntax.{Path, Filter}
 use Rattle.query.specs.Syntax as syntax
 use Rattle.text.specs.Promise.{opening}
-use Rattle.reading.proofs.Rules.{NotAt, other, NoSecond, NoDigit, termBytes, Stop, broken, deep, Result, got, stopped, LabelReads, one-digit, two-digits, no-digit, StarsRead, one-more, no-more}
-use Rattle.reading.proofs.Rules.{PathReads, path, path-stops, PathGoesOn, bar, bar-stops, no-bar}
-use Rattle.reading.proofs.Rules.{SequenceReads, sequence, sequence-stops, SequenceGoesOn, slash, slash-stops, no-slash}
-use Rattle.reading.proofs.Rules.{ItemReads, item, item-stops, AtomReads, dot, letter-v, caret, greater, less, square, square-open, square-stops, square-deep, round, round-open, round-stops, round-deep, no-atom}
-use Rattle.reading.proofs.Rules.{FilterReads, filter, filter-stops, FilterGoesOn, plus, plus-stops, no-plus}
-use Rattle.reading.proofs.Rules.{ConjunctionReads, conjunction, conjunction-stops, ConjunctionGoesOn, ampersand, ampersand-stops, no-ampersand}
-use Rattle.reading.proofs.Rules.{TermReads, exclamation, exclamation-stops, letter-t, letter-f, hash, hash-stops, curly, curly-open, curly-stops, curly-deep, a-path, a-path-stops}
+use Rattle.reading.specs.declared.Chain.{Chain}
+use Rattle.reading.specs.declared.Bracket.{Bracket}
+use Rattle.reading.proofs.Parts.{Joined, join, inside, openingByte}
+use Rattle.reading.proofs.Rules.{NotAt, other, NoSecond, NoDigit, termBytes, Stop, broken, deep, Result, got, stopped}
+use Rattle.reading.proofs.Rules.{LabelReads, one-digit, two-digits, no-digit, StarsRead, one-more, no-more}
+use Rattle.reading.proofs.Rules.{ChainReads, starts, start-stops, GoesOn, joined, joined-stops}
+use Rattle.reading.proofs.Rules.{LinkReads, sequence, item, item-stops, conjunction, exclamation, exclamation-stops}
+use Rattle.reading.proofs.Rules.{letter-t, letter-f, hash, hash-stops, curly, a-path, a-path-stops}
+use Rattle.reading.proofs.Rules.{AtomReads, dot, letter-v, caret, greater, less, square, square-stops, round, no-atom}
+use Rattle.reading.proofs.Rules.{BracketReads, closed, stays-open, inside-stops, too-deep}
 use Rattle.reading.proofs.Rules as rules
-use Rattle.reading.proofs.NextByte.{unequal, digit-opens-nothing}
+use Rattle.reading.proofs.NextByte.{unequal, equal, digit-opens-nothing}
 use Rattle.reading.proofs.Machine as machine
-use Rattle.reading.proofs.Machine.{PathPlace, FilterPlace, in-round, in-filter, in-square, in-curly, State, label, Offers, nothing, on, digit, Digit, dec-digit, look, goes, offer, ons, bytes, atoms, terms, depth, path-depth, filter-depth, Moves, stays, moves}
-use Rattle.reading.proofs.Machine.{behind-filter, behind-conjunction, behind-term, behind-path, behind-sequence, behind-item}
+use Rattle.reading.proofs.Machine.{PathPlace, FilterPlace, in-filter, State, label, Offers, nothing, on, digit, Digit, dec-digit, look, goes, offer}
+use Rattle.reading.proofs.Machine.{ons, bytes, atoms, terms, depth, path-depth, Moves, stays, moves, behind-term, behind-item}
+use Rattle.reading.proofs.Around.{Around, wanted, behind-chain, behind-link, around-depth, Holder, held, outside, shut}
+use Rattle.reading.proofs.Around.{joint-opens-nothing, bracket-opens, opened, one-deeper, closes, close-opens-nothing}
 
 -- What a state takes is what is offered, as far as the next byte tells, and at the end of a text.
 pub record Here (σ : State) (offers : Offers) (b : Bytes) : Type 0 where
@@ -37,6 +42,10 @@ pub data Led {A : Type 0} (limit : ℕ) (σ : State) (b : Bytes) (behind : A →
 skip : {c : ℕ} {these : List ℕ} {b : Bytes} (σ : State) (o : Offers) → NotAt (c ∷ these) b → look (on c σ o) b ≡ look o b
 skip σ o rules.ended = refl
 skip σ o (other h) = rw (unequal (λ e. h (List·Memᴰ·head e)), look)
+
+-- the byte that is offered first is taken
+taken : {c d : ℕ} (σ : State) (o : Offers) (b : Bytes) → c ≡ d → look (on d σ o) (c ∷ b) ≡ goes σ
+taken {d = d} σ o b e = rw (e, equal d, look)
 
 -- of fewer bytes, none is next either
 not-at-rest : {c : ℕ} {these : List ℕ} {b : Bytes} → NotAt (c ∷ these) b → NotAt these b
@@ -179,36 +188,47 @@ module _ {limit : ℕ} where
       let same = skip-all (terms o a F) (ons (atoms (λ p. p) (λ p. p) (in-filter o a F)) nothing) k in
       alike (record { takes = record { now = same; at-end = refl }; depths = refl }) x
 
+  module _ {A : Type 0} {behind : A → Offers} {r : Result A} {b : Bytes} where
+    -- a result behind a byte that is offered first, and opens no bracket
+    offered : {σ τ : State} {c d : ℕ} {o : Offers} → c ≡ d → ¬ T (opening d) → Here σ (on d τ o) (c ∷ b) → Led limit τ b behind r → Led limit σ (c ∷ b) behind r
+    offered {τ = τ} {o = o} e quiet h y = first (h .now ∙ taken τ o b e) (λ t. absurd (quiet (rw e at t))) y
+
+    -- a result behind the byte that opens a bracket, where one may be opened
+    entered : (k : Bracket) (h : Holder k) {o : ℕ} → o ≡ openingByte k → depth (outside k h) < limit
+        → Led limit (wanted (inside k) (held k h) (λ x. x)) b behind r → Led limit (outside k h) (o ∷ b) behind r
+    entered k h e l y = first (rw e (opened k h b)) (λ t. l) y
+
   -- Each kind of rule leads the machine from where its kind is wanted to where what is got stands read.
   mutual
     unfolding opening
 
-    pub led-path : {n : ℕ} {b : Bytes} {r : Result Path} → PathReads limit n b r → (P : PathPlace) → path-depth P ≡ n
-        → Led limit (machine.item (λ p. p) (λ p. p) P) b (behind-path P) r
-    led-path (path x y) P d = further-on (led-sequence x (λ p. p) P d) (λ σ h. led-path-on y P d σ h)
-    led-path (path-stops x) P d = stop (led-sequence x (λ p. p) P d)
+    pub led-chain : {c : Chain} {n : ℕ} {b : Bytes} {r : Result (Joined c)} → ChainReads limit c n b r → (a : Around c) → around-depth c a ≡ n
+        → Led limit (wanted c a (λ x. x)) b (behind-chain c a) r
+    led-chain (starts {c = c} x y) a d = further-on (led-link x a (λ x. x) d) (λ σ h. led-on y a d σ h)
+    led-chain (start-stops x) a d = stop (led-link x a (λ x. x) d)
 
-    led-path-on : {n : ℕ} {p : Path} {b : Bytes} {r : Result Path} → PathGoesOn limit n p b r → (P : PathPlace) → path-depth P ≡ n → (σ : State) → Here σ (behind-sequence P p) b
-        → Led limit σ b (behind-path P) r
-    led-path-on (bar {p = p} x y) P d σ h = first (h .now) absurd (further-on (led-sequence x (λ q. syntax.either p q) P d) (λ τ k. led-path-on y P d τ k))
-    led-path-on (bar-stops {p = p} x) P d σ h = first (h .now) absurd (stop (led-sequence x (λ q. syntax.either p q) P d))
-    led-path-on (no-bar k) P d σ h = led stays (passed k h)
+    led-on : {c : Chain} {n : ℕ} {x : Joined c} {b : Bytes} {r : Result (Joined c)} → GoesOn limit c n x b r → (a : Around c) → around-depth c a ≡ n
+        → (σ : State) → Here σ (behind-link c a x) b → Led limit σ b (behind-chain c a) r
+    led-on (joined {c = c} {x = x} e y z) a d σ h =
+        offered e (joint-opens-nothing c) h (further-on (led-link y a (λ q. join c x q) d) (λ τ k. led-on z a d τ k))
+    led-on (joined-stops {c = c} {x = x} e y) a d σ h = offered e (joint-opens-nothing c) h (stop (led-link y a (λ q. join c x q) d))
+    led-on (rules.ends k) a d σ h = led stays (passed k h)
 
-    led-sequence : {n : ℕ} {b : Bytes} {r : Result Path} → SequenceReads limit n b r → (e : Path → Path) (P : PathPlace) → path-depth P ≡ n
-        → Led limit (machine.item e (λ p. p) P) b (λ p. behind-sequence P (e p)) r
-    led-sequence (sequence x y) e P d = further-on (led-item x e (λ p. p) P d) (λ σ h. led-sequence-on y e P d σ h)
-    led-sequence (sequence-stops x) e P d = stop (led-item x e (λ p. p) P d)
-
-    led-sequence-on : {n : ℕ} {p : Path} {b : Bytes} {r : Result Path} → SequenceGoesOn limit n p b r → (e : Path → Path) (P : PathPlace) → path-depth P ≡ n → (σ : State) → Here σ (behind-item e P p) b
-        → Led limit σ b (λ p. behind-sequence P (e p)) r
-    led-sequence-on (slash {p = p} x y) e P d σ h = first (h .now) absurd (further-on (led-item x e (λ q. syntax.then p q) P d) (λ τ k. led-sequence-on y e P d τ k))
-    led-sequence-on (slash-stops {p = p} x) e P d σ h = first (h .now) absurd (stop (led-item x e (λ q. syntax.then p q) P d))
-    led-sequence-on (no-slash k) e P d σ h = led stays (passed k h)
-
-    led-item : {n : ℕ} {b : Bytes} {r : Result Path} → ItemReads limit n b r → (e t : Path → Path) (P : PathPlace) → path-depth P ≡ n
-        → Led limit (machine.item e t P) b (λ p. behind-item e P (t p)) r
-    led-item (item x y) e t P d = further-on (led-atom x e t P d) (λ σ h. led-stars y e t P σ h)
-    led-item (item-stops x) e t P d = stop (led-atom x e t P d)
+    led-link : {c : Chain} {n : ℕ} {b : Bytes} {r : Result (Joined c)} → LinkReads limit c n b r → (a : Around c) (f : Joined c → Joined c)
+        → around-depth c a ≡ n → Led limit (wanted c a f) b (λ x. behind-link c a (f x)) r
+    led-link (sequence x) P f d = led-chain x (f, P) d
+    led-link (item x y) a f d = further-on (led-atom x (a .0) f (a .1) d) (λ σ h. led-stars y (a .0) f (a .1) σ h)
+    led-link (item-stops x) a f d = stop (led-atom x (a .0) f (a .1) d)
+    led-link (conjunction x) F f d = led-chain x (f, F) d
+    led-link (exclamation x) a f d = first refl absurd (further-on (led-link x a (λ g. f (syntax.not g)) d) (λ σ h. led stays h))
+    led-link (exclamation-stops x) a f d = first refl absurd (stop (led-link x a (λ g. f (syntax.not g)) d))
+    led-link letter-t a f d = first refl absurd (led stays here)
+    led-link letter-f a f d = first refl absurd (led stays here)
+    led-link (hash x) a f d = first refl absurd (further-on (led-label x (a .0) f (a .1)) (λ σ h. led stays h))
+    led-link (hash-stops x) a f d = first refl absurd (stop (led-label x (a .0) f (a .1)))
+    led-link (curly x) a f d = led-bracket x (a .0, f, a .1) d
+    led-link (a-path k x) a f d = further-on (as-term (a .0) f (a .1) k (led-chain x (in-filter (a .0) f (a .1)) d)) (λ σ h. led stays h)
+    led-link (a-path-stops k x) a f d = stop (as-term (a .0) f (a .1) k (led-chain x (in-filter (a .0) f (a .1)) d))
 
     led-atom : {n : ℕ} {b : Bytes} {r : Result Path} → AtomReads limit n b r → (e t : Path → Path) (P : PathPlace) → path-depth P ≡ n
         → Led limit (machine.item e t P) b (λ p. offer (machine.item-read e t P p)) r
@@ -217,49 +237,16 @@ module _ {limit : ℕ} where
     led-atom caret e t P d = first refl absurd (led stays here)
     led-atom greater e t P d = first refl absurd (led stays here)
     led-atom less e t P d = first refl absurd (led stays here)
-    led-atom (square l x) e t P d = first refl (λ o. rw d l) (further-on (led-filter x (in-square e t P) (ap suc d)) (λ σ h. first (h .now) absurd (led stays here)))
-    led-atom (square-open l x k) e t P d = first refl (λ o. rw d l) (further-on (led-filter x (in-square e t P) (ap suc d)) (λ σ h. broke stays (passed k h)))
-    led-atom (square-stops l x) e t P d = first refl (λ o. rw d l) (stop (led-filter x (in-square e t P) (ap suc d)))
-    led-atom (square-deep l) e t P d = deepened stays refl tt (rw d l)
-    led-atom (round l x) e t P d = first refl (λ o. rw d l) (further-on (led-path x (in-round e t P) (ap suc d)) (λ σ h. first (h .now) absurd (led stays here)))
-    led-atom (round-open l x k) e t P d = first refl (λ o. rw d l) (further-on (led-path x (in-round e t P) (ap suc d)) (λ σ h. broke stays (passed k h)))
-    led-atom (round-stops l x) e t P d = first refl (λ o. rw d l) (stop (led-path x (in-round e t P) (ap suc d)))
-    led-atom (round-deep l) e t P d = deepened stays refl tt (rw d l)
+    led-atom (square x) e t P d = further-on (led-bracket x (e, t, P) d) (λ σ h. led stays h)
+    led-atom (square-stops x) e t P d = stop (led-bracket x (e, t, P) d)
+    led-atom (round x) e t P d = led-bracket x (e, t, P) d
     led-atom (no-atom h) e t P d = broke stays (record { now = skip-all (atoms e t P) nothing h; at-end = refl })
 
-    led-filter : {n : ℕ} {b : Bytes} {r : Result Filter} → FilterReads limit n b r → (F : FilterPlace) → filter-depth F ≡ n
-        → Led limit (machine.term (λ f. f) (λ f. f) F) b (behind-filter F) r
-    led-filter (filter x y) F d = further-on (led-conjunction x (λ f. f) F d) (λ σ h. led-filter-on y F d σ h)
-    led-filter (filter-stops x) F d = stop (led-conjunction x (λ f. f) F d)
-
-    led-filter-on : {n : ℕ} {f : Filter} {b : Bytes} {r : Result Filter} → FilterGoesOn limit n f b r → (F : FilterPlace) → filter-depth F ≡ n → (σ : State) → Here σ (behind-conjunction F f) b
-        → Led limit σ b (behind-filter F) r
-    led-filter-on (plus {f = f} x y) F d σ h = first (h .now) absurd (further-on (led-conjunction x (λ g. syntax.or f g) F d) (λ τ k. led-filter-on y F d τ k))
-    led-filter-on (plus-stops {f = f} x) F d σ h = first (h .now) absurd (stop (led-conjunction x (λ g. syntax.or f g) F d))
-    led-filter-on (no-plus k) F d σ h = led stays (passed k h)
-
-    led-conjunction : {n : ℕ} {b : Bytes} {r : Result Filter} → ConjunctionReads limit n b r → (o : Filter → Filter) (F : FilterPlace) → filter-depth F ≡ n
-        → Led limit (machine.term o (λ f. f) F) b (λ f. behind-conjunction F (o f)) r
-    led-conjunction (conjunction x y) o F d = further-on (led-term x o (λ f. f) F d) (λ σ h. led-conjunction-on y o F d σ h)
-    led-conjunction (conjunction-stops x) o F d = stop (led-term x o (λ f. f) F d)
-
-    led-conjunction-on : {n : ℕ} {f : Filter} {b : Bytes} {r : Result Filter} → ConjunctionGoesOn limit n f b r → (o : Filter → Filter) (F : FilterPlace) → filter-depth F ≡ n → (σ : State) → Here σ (behind-term o F f) b
-        → Led limit σ b (λ f. behind-conjunction F (o f)) r
-    led-conjunction-on (ampersand {f = f} x y) o F d σ h = first (h .now) absurd (further-on (led-term x o (λ g. syntax.and f g) F d) (λ τ k. led-conjunction-on y o F d τ k))
-    led-conjunction-on (ampersand-stops {f = f} x) o F d σ h = first (h .now) absurd (stop (led-term x o (λ g. syntax.and f g) F d))
-    led-conjunction-on (no-ampersand k) o F d σ h = led stays (passed k h)
-
-    led-term : {n : ℕ} {b : Bytes} {r : Result Filter} → TermReads limit n b r → (o a : Filter → Filter) (F : FilterPlace) → filter-depth F ≡ n
-        → Led limit (machine.term o a F) b (λ f. behind-term o F (a f)) r
-    led-term (exclamation x) o a F d = first refl absurd (further-on (led-term x o (λ f. a (syntax.not f)) F d) (λ σ h. led stays h))
-    led-term (exclamation-stops x) o a F d = first refl absurd (stop (led-term x o (λ f. a (syntax.not f)) F d))
-    led-term letter-t o a F d = first refl absurd (led stays here)
-    led-term letter-f o a F d = first refl absurd (led stays here)
-    led-term (hash x) o a F d = first refl absurd (further-on (led-label x o a F) (λ σ h. led stays h))
-    led-term (hash-stops x) o a F d = first refl absurd (stop (led-label x o a F))
-    led-term (curly l x) o a F d = first refl (λ o. rw d l) (further-on (led-filter x (in-curly o a F) (ap suc d)) (λ σ h. first (h .now) absurd (led stays here)))
-    led-term (curly-open l x k) o a F d = first refl (λ o. rw d l) (further-on (led-filter x (in-curly o a F) (ap suc d)) (λ σ h. broke stays (passed k h)))
-    led-term (curly-stops l x) o a F d = first refl (λ o. rw d l) (stop (led-filter x (in-curly o a F) (ap suc d)))
-    led-term (curly-deep l) o a F d = deepened stays refl tt (rw d l)
-    led-term (a-path k x) o a F d = further-on (as-term o a F k (led-path x (in-filter o a F) d)) (λ σ h. led stays h)
-    led-term (a-path-stops k x) o a F d = stop (as-term o a F k (led-path x (in-filter o a F) d))
+    led-bracket : {k : Bracket} {n : ℕ} {b : Bytes} {r : Result (Joined (inside k))} → BracketReads limit k n b r → (h : Holder k)
+        → depth (outside k h) ≡ n → Led limit (outside k h) b (λ x. offer (shut k h x)) r
+    led-bracket (closed {k = k} e l x f) h d =
+        entered k h e (rw d l) (further-on (led-chain x (held k h) (one-deeper k h ∙ ap suc d)) (λ σ i. offered f (close-opens-nothing k) (rw (closes k h) at i) (led stays here)))
+    led-bracket (stays-open {k = k} e l x j) h d =
+        entered k h e (rw d l) (further-on (led-chain x (held k h) (one-deeper k h ∙ ap suc d)) (λ σ i. broke stays (passed j (rw (closes k h) at i))))
+    led-bracket (inside-stops {k = k} e l x) h d = entered k h e (rw d l) (stop (led-chain x (held k h) (one-deeper k h ∙ ap suc d)))
+    led-bracket (too-deep {k = k} {b = b} e l) h d = deepened {ω = wanted (inside k) (held k h) (λ x. x)} stays (rw e (opened k h b)) (rw e (bracket-opens k)) (rw d l)

@@ -1,13 +1,14 @@
+pub mod Parts
 pub mod Rules
 pub mod NextByte
 pub mod Sound
 pub mod Deciding
 pub mod Follows
 pub mod Machine
+pub mod Around
 pub mod Led
 pub mod Depth
 pub mod Place
-pub mod Determined
 pub mod Judged
 pub mod Unique
 pub mod Back

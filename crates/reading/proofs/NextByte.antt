@@ -33,6 +33,14 @@ unequal {c} {d} h = go (eqb c d) refl
     go true e = absurd (h (eqb→eq c d (rw e tt)))
     go false e = refl
 
+-- and holds of a byte and itself
+pub equal : (c : ℕ) → eqb c c ≡ true
+equal c = go (eqb c c) (eqb-refl c)
+  where
+    go : (x : Bool) → T x → x ≡ true
+    go true t = refl
+    go false t = absurd t
+
 -- a digit is no bracket
 module _ {c : ℕ} (least : 48 ≤ c) (most : c ≤ 57) where
   pub digit-opens-nothing : opening c ≡ false

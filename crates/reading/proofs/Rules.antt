@@ -1,11 +1,17 @@
--- How a reader goes through a text, as rules: one kind of rule for each line of the grammar, each step decided by the next byte.
+-- How a reader goes through a text, as rules: one family for all chains, one for their links, one for all brackets, each step decided by
+-- the next byte.
 -- Nothing here has to be believed: the laws of this crate say what the rules come to, in terms of the grammar. Assumes nothing.
 use Prim.Native.Nat.{ℕ, suc, _+_, _*_, _≤_, _<_}
 use mathlib.Core.Path.{_≡_}
 use mathlib.Core.List.{List, [], _∷_, List·Memᴰ}
 use Rattle.reply.specs.Bytes.{Bytes}
-use Rattle.query.specs.Syntax.{Path, self, child, parent, next, previous, stay, then, either, star}
-use Rattle.query.specs.Syntax.{Filter, labelled, leads, always, never, not, and, or}
+use Rattle.query.specs.Syntax.{Path, self, child, parent, next, previous, stay, star}
+use Rattle.query.specs.Syntax.{Filter, labelled, leads, always, never, not}
+use Rattle.reading.specs.declared.Chain.{Chain}
+use Rattle.reading.specs.declared.Chain.the-variants as chain
+use Rattle.reading.specs.declared.Bracket.{Bracket}
+use Rattle.reading.specs.declared.Bracket.the-variants as bracket
+use Rattle.reading.proofs.Parts.{Joined, join, joining, inside, openingByte, closingByte}
 
 -- Why reading stops: at a byte that the grammar does not take, or at a bracket that is one too many.
 pub data Stop : Type 0 where
@@ -55,28 +61,41 @@ pub data StarsRead : Path → Bytes → Result Path → Type 0 where
 -- With n brackets open, reading the bytes comes to a result. At most `limit` brackets may be open at once: 32 by document 01.
 module _ (limit : ℕ) where
   mutual
-    pub data PathReads : ℕ → Bytes → Result Path → Type 0 where
-      path : {n : ℕ} {b more : Bytes} {p : Path} {r : Result Path} → SequenceReads n b (got p more) → PathGoesOn n p more r → PathReads n b r
-      path-stops : {n : ℕ} {b more : Bytes} {s : Stop} → SequenceReads n b (stopped s more) → PathReads n b (stopped s more)
+    -- a chain: its first link, and what follows
+    pub data ChainReads : (c : Chain) → ℕ → Bytes → Result (Joined c) → Type 0 where
+      starts : {c : Chain} {n : ℕ} {b more : Bytes} {x : Joined c} {r : Result (Joined c)}
+          → LinkReads c n b (got x more) → GoesOn c n x more r → ChainReads c n b r
+      start-stops : {c : Chain} {n : ℕ} {b more : Bytes} {s : Stop} → LinkReads c n b (stopped s more) → ChainReads c n b (stopped s more)
 
-    -- the path p is read, and what follows may add to it
-    pub data PathGoesOn : ℕ → Path → Bytes → Result Path → Type 0 where
-      bar : {n : ℕ} {b more : Bytes} {p q : Path} {r : Result Path} → SequenceReads n b (got q more) → PathGoesOn n (either p q) more r → PathGoesOn n p (124 ∷ b) r
-      bar-stops : {n : ℕ} {b more : Bytes} {p : Path} {s : Stop} → SequenceReads n b (stopped s more) → PathGoesOn n p (124 ∷ b) (stopped s more)
-      no-bar : {n : ℕ} {b : Bytes} {p : Path} → NotAt (124 ∷ []) b → PathGoesOn n p b (got p b)
+    -- so much of a chain is read, and what follows may add to it
+    pub data GoesOn : (c : Chain) → ℕ → Joined c → Bytes → Result (Joined c) → Type 0 where
+      joined : {c : Chain} {n j : ℕ} {b more : Bytes} {x y : Joined c} {r : Result (Joined c)}
+          → j ≡ joining c → LinkReads c n b (got y more) → GoesOn c n (join c x y) more r → GoesOn c n x (j ∷ b) r
+      joined-stops : {c : Chain} {n j : ℕ} {b more : Bytes} {x : Joined c} {s : Stop}
+          → j ≡ joining c → LinkReads c n b (stopped s more) → GoesOn c n x (j ∷ b) (stopped s more)
+      ends : {c : Chain} {n : ℕ} {b : Bytes} {x : Joined c} → NotAt (joining c ∷ []) b → GoesOn c n x b (got x b)
 
-    pub data SequenceReads : ℕ → Bytes → Result Path → Type 0 where
-      sequence : {n : ℕ} {b more : Bytes} {p : Path} {r : Result Path} → ItemReads n b (got p more) → SequenceGoesOn n p more r → SequenceReads n b r
-      sequence-stops : {n : ℕ} {b more : Bytes} {s : Stop} → ItemReads n b (stopped s more) → SequenceReads n b (stopped s more)
-
-    pub data SequenceGoesOn : ℕ → Path → Bytes → Result Path → Type 0 where
-      slash : {n : ℕ} {b more : Bytes} {p q : Path} {r : Result Path} → ItemReads n b (got q more) → SequenceGoesOn n (then p q) more r → SequenceGoesOn n p (47 ∷ b) r
-      slash-stops : {n : ℕ} {b more : Bytes} {p : Path} {s : Stop} → ItemReads n b (stopped s more) → SequenceGoesOn n p (47 ∷ b) (stopped s more)
-      no-slash : {n : ℕ} {b : Bytes} {p : Path} → NotAt (47 ∷ []) b → SequenceGoesOn n p b (got p b)
-
-    pub data ItemReads : ℕ → Bytes → Result Path → Type 0 where
-      item : {n : ℕ} {b more : Bytes} {p : Path} {r : Result Path} → AtomReads n b (got p more) → StarsRead p more r → ItemReads n b r
-      item-stops : {n : ℕ} {b more : Bytes} {s : Stop} → AtomReads n b (stopped s more) → ItemReads n b (stopped s more)
+    -- the links: sequences of a path, items of a sequence, conjunctions of a filter, terms of a conjunction
+    pub data LinkReads : (c : Chain) → ℕ → Bytes → Result (Joined c) → Type 0 where
+      sequence : {n : ℕ} {b : Bytes} {r : Result Path} → ChainReads chain.Sequence n b r → LinkReads chain.Path n b r
+      item : {n : ℕ} {b more : Bytes} {p : Path} {r : Result Path}
+          → AtomReads n b (got p more) → StarsRead p more r → LinkReads chain.Sequence n b r
+      item-stops : {n : ℕ} {b more : Bytes} {s : Stop} → AtomReads n b (stopped s more) → LinkReads chain.Sequence n b (stopped s more)
+      conjunction : {n : ℕ} {b : Bytes} {r : Result Filter} → ChainReads chain.Conjunction n b r → LinkReads chain.Filter n b r
+      exclamation : {n : ℕ} {b more : Bytes} {f : Filter}
+          → LinkReads chain.Conjunction n b (got f more) → LinkReads chain.Conjunction n (33 ∷ b) (got (not f) more)
+      exclamation-stops : {n : ℕ} {b more : Bytes} {s : Stop}
+          → LinkReads chain.Conjunction n b (stopped s more) → LinkReads chain.Conjunction n (33 ∷ b) (stopped s more)
+      letter-t : {n : ℕ} {b : Bytes} → LinkReads chain.Conjunction n (116 ∷ b) (got always b)
+      letter-f : {n : ℕ} {b : Bytes} → LinkReads chain.Conjunction n (102 ∷ b) (got never b)
+      hash : {n : ℕ} {b more : Bytes} {l : ℕ} → LabelReads b (got l more) → LinkReads chain.Conjunction n (35 ∷ b) (got (labelled l) more)
+      hash-stops : {n : ℕ} {b more : Bytes} {s : Stop}
+          → LabelReads b (stopped s more) → LinkReads chain.Conjunction n (35 ∷ b) (stopped s more)
+      curly : {n : ℕ} {b : Bytes} {r : Result Filter} → BracketReads bracket.Curly n b r → LinkReads chain.Conjunction n b r
+      a-path : {n : ℕ} {b more : Bytes} {p : Path}
+          → NotAt termBytes b → ChainReads chain.Path n b (got p more) → LinkReads chain.Conjunction n b (got (leads p) more)
+      a-path-stops : {n : ℕ} {b more : Bytes} {s : Stop}
+          → NotAt termBytes b → ChainReads chain.Path n b (stopped s more) → LinkReads chain.Conjunction n b (stopped s more)
 
     pub data AtomReads : ℕ → Bytes → Result Path → Type 0 where
       dot : {n : ℕ} {b : Bytes} → AtomReads n (46 ∷ b) (got self b)
@@ -84,44 +103,31 @@ module _ (limit : ℕ) where
       caret : {n : ℕ} {b : Bytes} → AtomReads n (94 ∷ b) (got parent b)
       greater : {n : ℕ} {b : Bytes} → AtomReads n (62 ∷ b) (got next b)
       less : {n : ℕ} {b : Bytes} → AtomReads n (60 ∷ b) (got previous b)
-      square : {n : ℕ} {b more : Bytes} {f : Filter} → n < limit → FilterReads (suc n) b (got f (93 ∷ more)) → AtomReads n (91 ∷ b) (got (stay f) more)
-      square-open : {n : ℕ} {b more : Bytes} {f : Filter} → n < limit → FilterReads (suc n) b (got f more) → NotAt (93 ∷ []) more → AtomReads n (91 ∷ b) (stopped broken more)
-      square-stops : {n : ℕ} {b more : Bytes} {s : Stop} → n < limit → FilterReads (suc n) b (stopped s more) → AtomReads n (91 ∷ b) (stopped s more)
-      square-deep : {n : ℕ} {b : Bytes} → limit ≤ n → AtomReads n (91 ∷ b) (stopped deep (91 ∷ b))
-      round : {n : ℕ} {b more : Bytes} {p : Path} → n < limit → PathReads (suc n) b (got p (41 ∷ more)) → AtomReads n (40 ∷ b) (got p more)
-      round-open : {n : ℕ} {b more : Bytes} {p : Path} → n < limit → PathReads (suc n) b (got p more) → NotAt (41 ∷ []) more → AtomReads n (40 ∷ b) (stopped broken more)
-      round-stops : {n : ℕ} {b more : Bytes} {s : Stop} → n < limit → PathReads (suc n) b (stopped s more) → AtomReads n (40 ∷ b) (stopped s more)
-      round-deep : {n : ℕ} {b : Bytes} → limit ≤ n → AtomReads n (40 ∷ b) (stopped deep (40 ∷ b))
+      square : {n : ℕ} {b more : Bytes} {f : Filter} → BracketReads bracket.Square n b (got f more) → AtomReads n b (got (stay f) more)
+      square-stops : {n : ℕ} {b more : Bytes} {s : Stop} → BracketReads bracket.Square n b (stopped s more) → AtomReads n b (stopped s more)
+      round : {n : ℕ} {b : Bytes} {r : Result Path} → BracketReads bracket.Round n b r → AtomReads n b r
       no-atom : {n : ℕ} {b : Bytes} → NotAt atomBytes b → AtomReads n b (stopped broken b)
 
-    pub data FilterReads : ℕ → Bytes → Result Filter → Type 0 where
-      filter : {n : ℕ} {b more : Bytes} {f : Filter} {r : Result Filter} → ConjunctionReads n b (got f more) → FilterGoesOn n f more r → FilterReads n b r
-      filter-stops : {n : ℕ} {b more : Bytes} {s : Stop} → ConjunctionReads n b (stopped s more) → FilterReads n b (stopped s more)
+    -- a bracket: what stands in it is read with one more open, up to the byte that closes it
+    pub data BracketReads : (k : Bracket) → ℕ → Bytes → Result (Joined (inside k)) → Type 0 where
+      closed : {k : Bracket} {n o d : ℕ} {b more : Bytes} {x : Joined (inside k)}
+          → o ≡ openingByte k → n < limit → ChainReads (inside k) (suc n) b (got x (d ∷ more)) → d ≡ closingByte k
+          → BracketReads k n (o ∷ b) (got x more)
+      stays-open : {k : Bracket} {n o : ℕ} {b more : Bytes} {x : Joined (inside k)}
+          → o ≡ openingByte k → n < limit → ChainReads (inside k) (suc n) b (got x more) → NotAt (closingByte k ∷ []) more
+          → BracketReads k n (o ∷ b) (stopped broken more)
+      inside-stops : {k : Bracket} {n o : ℕ} {b more : Bytes} {s : Stop}
+          → o ≡ openingByte k → n < limit → ChainReads (inside k) (suc n) b (stopped s more) → BracketReads k n (o ∷ b) (stopped s more)
+      too-deep : {k : Bracket} {n o : ℕ} {b : Bytes} → o ≡ openingByte k → limit ≤ n → BracketReads k n (o ∷ b) (stopped deep (o ∷ b))
 
-    pub data FilterGoesOn : ℕ → Filter → Bytes → Result Filter → Type 0 where
-      plus : {n : ℕ} {b more : Bytes} {f g : Filter} {r : Result Filter} → ConjunctionReads n b (got g more) → FilterGoesOn n (or f g) more r → FilterGoesOn n f (43 ∷ b) r
-      plus-stops : {n : ℕ} {b more : Bytes} {f : Filter} {s : Stop} → ConjunctionReads n b (stopped s more) → FilterGoesOn n f (43 ∷ b) (stopped s more)
-      no-plus : {n : ℕ} {b : Bytes} {f : Filter} → NotAt (43 ∷ []) b → FilterGoesOn n f b (got f b)
+  abbrev pub PathReads : ℕ → Bytes → Result Path → Type 0
+  PathReads = ChainReads chain.Path
 
-    pub data ConjunctionReads : ℕ → Bytes → Result Filter → Type 0 where
-      conjunction : {n : ℕ} {b more : Bytes} {f : Filter} {r : Result Filter} → TermReads n b (got f more) → ConjunctionGoesOn n f more r → ConjunctionReads n b r
-      conjunction-stops : {n : ℕ} {b more : Bytes} {s : Stop} → TermReads n b (stopped s more) → ConjunctionReads n b (stopped s more)
+  abbrev pub FilterReads : ℕ → Bytes → Result Filter → Type 0
+  FilterReads = ChainReads chain.Filter
 
-    pub data ConjunctionGoesOn : ℕ → Filter → Bytes → Result Filter → Type 0 where
-      ampersand : {n : ℕ} {b more : Bytes} {f g : Filter} {r : Result Filter} → TermReads n b (got g more) → ConjunctionGoesOn n (and f g) more r → ConjunctionGoesOn n f (38 ∷ b) r
-      ampersand-stops : {n : ℕ} {b more : Bytes} {f : Filter} {s : Stop} → TermReads n b (stopped s more) → ConjunctionGoesOn n f (38 ∷ b) (stopped s more)
-      no-ampersand : {n : ℕ} {b : Bytes} {f : Filter} → NotAt (38 ∷ []) b → ConjunctionGoesOn n f b (got f b)
+  abbrev pub ItemReads : ℕ → Bytes → Result Path → Type 0
+  ItemReads = LinkReads chain.Sequence
 
-    pub data TermReads : ℕ → Bytes → Result Filter → Type 0 where
-      exclamation : {n : ℕ} {b more : Bytes} {f : Filter} → TermReads n b (got f more) → TermReads n (33 ∷ b) (got (not f) more)
-      exclamation-stops : {n : ℕ} {b more : Bytes} {s : Stop} → TermReads n b (stopped s more) → TermReads n (33 ∷ b) (stopped s more)
-      letter-t : {n : ℕ} {b : Bytes} → TermReads n (116 ∷ b) (got always b)
-      letter-f : {n : ℕ} {b : Bytes} → TermReads n (102 ∷ b) (got never b)
-      hash : {n : ℕ} {b more : Bytes} {l : ℕ} → LabelReads b (got l more) → TermReads n (35 ∷ b) (got (labelled l) more)
-      hash-stops : {n : ℕ} {b more : Bytes} {s : Stop} → LabelReads b (stopped s more) → TermReads n (35 ∷ b) (stopped s more)
-      curly : {n : ℕ} {b more : Bytes} {f : Filter} → n < limit → FilterReads (suc n) b (got f (125 ∷ more)) → TermReads n (123 ∷ b) (got f more)
-      curly-open : {n : ℕ} {b more : Bytes} {f : Filter} → n < limit → FilterReads (suc n) b (got f more) → NotAt (125 ∷ []) more → TermReads n (123 ∷ b) (stopped broken more)
-      curly-stops : {n : ℕ} {b more : Bytes} {s : Stop} → n < limit → FilterReads (suc n) b (stopped s more) → TermReads n (123 ∷ b) (stopped s more)
-      curly-deep : {n : ℕ} {b : Bytes} → limit ≤ n → TermReads n (123 ∷ b) (stopped deep (123 ∷ b))
-      a-path : {n : ℕ} {b more : Bytes} {p : Path} → NotAt termBytes b → PathReads n b (got p more) → TermReads n b (got (leads p) more)
-      a-path-stops : {n : ℕ} {b more : Bytes} {s : Stop} → NotAt termBytes b → PathReads n b (stopped s more) → TermReads n b (stopped s more)
+  abbrev pub TermReads : ℕ → Bytes → Result Filter → Type 0
+  TermReads = LinkReads chain.Conjunction

@@ -4,16 +4,21 @@ use native.Mathlib.Omega.{arith}
 use mathlib.Core.Path.{_≡_, refl, ap}
 use mathlib.Core.List.{[], _∷_, _++_, append-assoc}
 use Rattle.reply.specs.Bytes.{Bytes}
-use Rattle.query.specs.Syntax.{Path, Filter}
+use Rattle.query.specs.Syntax.{Path, self, stay, Filter, always}
 use Rattle.text.specs.Grammar as grammar
 use Rattle.text.specs.Grammar.{LabelText, PathText, SequenceText, ItemText, AtomText, FilterText, ConjunctionText, TermText}
-use Rattle.reading.proofs.Rules.{Stop, broken, deep, Result, got, stopped, LabelReads, one-digit, two-digits, no-digit, StarsRead, one-more, no-more}
-use Rattle.reading.proofs.Rules.{PathReads, path, path-stops, PathGoesOn, bar, bar-stops, no-bar}
-use Rattle.reading.proofs.Rules.{SequenceReads, sequence, sequence-stops, SequenceGoesOn, slash, slash-stops, no-slash}
-use Rattle.reading.proofs.Rules.{ItemReads, item, item-stops, AtomReads, dot, letter-v, caret, greater, less, square, square-open, square-stops, square-deep, round, round-open, round-stops, round-deep, no-atom}
-use Rattle.reading.proofs.Rules.{FilterReads, filter, filter-stops, FilterGoesOn, plus, plus-stops, no-plus}
-use Rattle.reading.proofs.Rules.{ConjunctionReads, conjunction, conjunction-stops, ConjunctionGoesOn, ampersand, ampersand-stops, no-ampersand}
-use Rattle.reading.proofs.Rules.{TermReads, exclamation, exclamation-stops, letter-t, letter-f, hash, hash-stops, curly, curly-open, curly-stops, curly-deep, a-path, a-path-stops}
+use Rattle.reading.specs.declared.Chain.{Chain}
+use Rattle.reading.specs.declared.Chain.the-variants as chain
+use Rattle.reading.specs.declared.Bracket.{Bracket}
+use Rattle.reading.specs.declared.Bracket.the-variants as brackets
+use Rattle.reading.proofs.Parts.{Joined, join, joining, inside, openingByte, closingByte}
+use Rattle.reading.proofs.Rules.{Stop, broken, deep, Result, got, stopped, LabelReads, one-digit, two-digits, no-digit}
+use Rattle.reading.proofs.Rules.{StarsRead, one-more, no-more}
+use Rattle.reading.proofs.Rules.{ChainReads, starts, start-stops, GoesOn, joined, joined-stops, ends}
+use Rattle.reading.proofs.Rules.{LinkReads, sequence, item, item-stops, conjunction, exclamation, exclamation-stops}
+use Rattle.reading.proofs.Rules.{letter-t, letter-f, hash, hash-stops, curly, a-path, a-path-stops}
+use Rattle.reading.proofs.Rules.{AtomReads, dot, letter-v, caret, greater, less, square, square-stops, round, no-atom}
+use Rattle.reading.proofs.Rules.{BracketReads, closed, stays-open, inside-stops, too-deep}
 
 -- The bytes begin with a text of x, and `more` is behind it.
 pub record Span {A : Type 0} (Text : Bytes → A → Type 0) (b : Bytes) (x : A) (more : Bytes) : Type 0 where
@@ -41,6 +46,11 @@ module _ {A : Type 0} {X : Bytes → A → Type 0} where
   exactly : (s : Bytes) {more : Bytes} {x : A} → X s x → Heard X (s ++ more) (got x more)
   exactly s w = whole (record { front = s; splits = refl; text = w })
 
+  -- all texts of one kind are texts of another
+  lift-all : {Y : Bytes → A → Type 0} {b : Bytes} {r : Result A} → ((s : Bytes) (x : A) → X s x → Y s x) → Heard X b r → Heard Y b r
+  lift-all f (whole {x = x} v) = whole (record { front = v .front; splits = v .splits; text = f (v .front) x (v .text) })
+  lift-all f (begun {x = x} u t e w a) = begun u t e (f (u ++ t) x w) a
+
   -- what is got has its text in front
   pub span : {b more : Bytes} {x : A} → Heard X b (got x more) → Span X b x more
   span (whole v) = v
@@ -63,32 +73,87 @@ module _ {A : Type 0} {X : Bytes → A → Type 0} where
       ahead-stop : {b more : Bytes} {s : Stop} → ((u : Bytes) (x : A) → X u x → (y : B) × Y (c ∷ u) y) → Heard X b (stopped s more) → Heard Y (c ∷ b) (stopped s more)
       ahead-stop f (begun {x = x} u t e w a) = begun (c ∷ u) t (ap (λ (l : Bytes). c ∷ l) e) (f (u ++ t) x w .1) a
 
-    -- a text between brackets
-    module _ {c : ℕ} (d : ℕ) where
-      closed : {b more : Bytes} {x : A} {y : B} → ((s : Bytes) → X s x → Y (c ∷ s ++ d ∷ []) y) → Span X b x (d ∷ more) → Span Y (c ∷ b) y more
-      closed f v = record { front = c ∷ v .front ++ d ∷ []; splits = rw (v .splits, append-assoc); text = f (v .front) (v .text) }
+-- The texts of a chain, and of its links.
+abbrev ChainText : (c : Chain) → Bytes → Joined c → Type 0
+ChainText chain.Path = PathText
+ChainText chain.Sequence = SequenceText
+ChainText chain.Filter = FilterText
+ChainText chain.Conjunction = ConjunctionText
 
-      module _ {b more : Bytes} (f : (u : Bytes) (x : A) → X u x → (y : B) × Y (c ∷ u ++ d ∷ []) y) where
-        -- and so where reading stops: the bracket may be closed later
-        closed-stop : {s : Stop} → Heard X b (stopped s more) → Heard Y (c ∷ b) (stopped s more)
-        closed-stop (begun {x = x} u t e w a) =
-            begun (c ∷ u) (t ++ d ∷ []) (ap (λ (l : Bytes). c ∷ l) e) (rw append-assoc at (f (u ++ t) x w .1)) (longer (d ∷ []) a)
+abbrev LinkText : (c : Chain) → Bytes → Joined c → Type 0
+LinkText chain.Path = SequenceText
+LinkText chain.Sequence = ItemText
+LinkText chain.Filter = ConjunctionText
+LinkText chain.Conjunction = TermText
 
-        -- a text that stands where a closing bracket would do
-        unclosed : {x : A} → Span X b x more → Heard Y (c ∷ b) (stopped broken more)
-        unclosed {x} v = begun (c ∷ v .front) (d ∷ []) (ap (λ (l : Bytes). c ∷ l) (v .splits)) (f (v .front) x (v .text) .1) anything
+-- a link is a chain
+one-link : (c : Chain) (s : Bytes) (x : Joined c) → LinkText c s x → ChainText c s x
+one-link chain.Path s x w = grammar.one-sequence w
+one-link chain.Sequence s x w = grammar.one-item w
+one-link chain.Filter s x w = grammar.one-conjunction w
+one-link chain.Conjunction s x w = grammar.one-term w
 
-    -- a text, a byte, and another text
-    module _ {C : Type 0} {Z : Bytes → C → Type 0} {c : ℕ} {b rest more : Bytes} {x : A} where
-      join : {y : B} {z : C} → ((s u : Bytes) → X s x → Y u y → Z (s ++ c ∷ u) z) → Span X b x (c ∷ rest) → Span Y rest y more → Span Z b z more
-      join f v w =
-          record { front = v .front ++ c ∷ w .front; splits = rw (v .splits, w .splits, append-assoc); text = f (v .front) (w .front) (v .text) (w .text) }
+-- and so are a chain and one more link, joined
+links : (c : Chain) (s u : Bytes) (x y : Joined c) → ChainText c s x → LinkText c u y → ChainText c (s ++ joining c ∷ u) (join c x y)
+links chain.Path s u x y v w = grammar.bar v w
+links chain.Sequence s u x y v w = grammar.slash v w
+links chain.Filter s u x y v w = grammar.plus v w
+links chain.Conjunction s u x y v w = grammar.ampersand v w
 
-      -- and so where reading stops in the second
-      join-stop : {s : Stop} → ((s u : Bytes) (y : B) → X s x → Y u y → (z : C) × Z (s ++ c ∷ u) z) → Span X b x (c ∷ rest) → Heard Y rest (stopped s more) → Heard Z b (stopped s more)
-      join-stop f v (begun {x = y} u t e w a) =
-          let (z, text) = f (v .front) (u ++ t) y (v .text) w in
-          begun {x = z} {more = more} (v .front ++ c ∷ u) t (rw (v .splits, e, append-assoc)) (rw append-assoc text) a
+-- there is a text of each
+example : (c : Chain) → (s : Bytes) × (x : Joined c) × ChainText c s x
+example chain.Path = (46 ∷ [], self, grammar.one-sequence (grammar.one-item (grammar.an-atom grammar.dot)))
+example chain.Sequence = (46 ∷ [], self, grammar.one-item (grammar.an-atom grammar.dot))
+example chain.Filter = (116 ∷ [], always, grammar.one-conjunction (grammar.one-term grammar.letter-t))
+example chain.Conjunction = (116 ∷ [], always, grammar.one-term grammar.letter-t)
+
+-- The text of a bracket is that of what stands in it, between two bytes.
+data BracketText (k : Bracket) : Bytes → Joined (inside k) → Type 0 where
+  between : (s : Bytes) {x : Joined (inside k)} → ChainText (inside k) s x → BracketText k (openingByte k ∷ s ++ closingByte k ∷ []) x
+
+-- as an atom, or as a term
+square-text : {s : Bytes} {f : Filter} → BracketText brackets.Square s f → AtomText s (stay f)
+square-text (between s w) = grammar.square w
+
+round-text : {s : Bytes} {p : Path} → BracketText brackets.Round s p → AtomText s p
+round-text (between s w) = grammar.round w
+
+curly-text : {s : Bytes} {f : Filter} → BracketText brackets.Curly s f → TermText s f
+curly-text (between s w) = grammar.curly w
+
+module _ (c : Chain) {j : ℕ} (e : j ≡ joining c) {b rest more : Bytes} {x : Joined c} (v : Span (ChainText c) b x (j ∷ rest)) where
+  -- a chain, its byte, and one more link
+  link-on : {y : Joined c} → Span (LinkText c) rest y more → Span (ChainText c) b (join c x y) more
+  link-on {y = y} w =
+      record { front = v .front ++ joining c ∷ w .front; splits = rw (v .splits, w .splits, e, append-assoc); text = links c (v .front) (w .front) x y (v .text) (w .text) }
+
+  -- and so where reading stops in that link
+  link-stops : {s : Stop} → Heard (LinkText c) rest (stopped s more) → Heard (ChainText c) b (stopped s more)
+  link-stops (begun {x = y} u t q w a) =
+      begun {x = join c x y} {more = more} (v .front ++ joining c ∷ u) t (rw (v .splits, q, e, append-assoc))
+      (rw append-assoc (links c (v .front) (u ++ t) x y (v .text) w)) a
+
+module _ (k : Bracket) {o : ℕ} (e : o ≡ openingByte k) {b more : Bytes} where
+  -- a bracket that is closed
+  close : {d : ℕ} {x : Joined (inside k)} → d ≡ closingByte k → Span (ChainText (inside k)) b x (d ∷ more) → Span (BracketText k) (o ∷ b) x more
+  close f v =
+      record { front = openingByte k ∷ v .front ++ closingByte k ∷ []; splits = rw (v .splits, e, f, append-assoc); text = between (v .front) (v .text) }
+
+  -- one that another byte leaves open
+  leave : {x : Joined (inside k)} → Span (ChainText (inside k)) b x more → Heard (BracketText k) (o ∷ b) (stopped broken more)
+  leave v = begun {more = more} (openingByte k ∷ v .front) (closingByte k ∷ []) (rw (v .splits, e)) (between (v .front) (v .text)) anything
+
+  -- one that may be closed behind where reading stops
+  leave-stop : {s : Stop} → Heard (ChainText (inside k)) b (stopped s more) → Heard (BracketText k) (o ∷ b) (stopped s more)
+  leave-stop (begun {x = x} u t q w a) =
+      let text : BracketText k (openingByte k ∷ (u ++ t) ++ closingByte k ∷ []) x = between (u ++ t) w in
+      begun {more = more} (openingByte k ∷ u) (t ++ closingByte k ∷ []) (rw (q, e)) (rw append-assoc at text) (longer (closingByte k ∷ []) a)
+
+-- a bracket that is one too many
+not-opened : (k : Bracket) {o : ℕ} {b : Bytes} → o ≡ openingByte k → Heard (BracketText k) (o ∷ b) (stopped deep (o ∷ b))
+not-opened k {o = o} e =
+    let (s, x, w) = example (inside k) in
+    begun {x = x} [] (o ∷ s ++ closingByte k ∷ []) refl (rw e (between s w)) bracket
 
 -- a label's digits
 heard-label : {b : Bytes} {r : Result ℕ} → LabelReads b r → Heard LabelText b r
@@ -104,27 +169,30 @@ heard-stars (no-more h) v = whole v
 -- Each kind of rule gets texts of its kind; a rule that goes on is given the text before it.
 module _ {limit : ℕ} where
   mutual
-    pub heard-path : {n : ℕ} {b : Bytes} {r : Result Path} → PathReads limit n b r → Heard PathText b r
-    heard-path (path x y) = heard-path-on y (lift (λ s w. grammar.one-sequence w) (span (heard-sequence x)))
-    heard-path (path-stops x) = lift-stop (λ s q w. (q, grammar.one-sequence w)) (heard-sequence x)
+    pub heard : {c : Chain} {n : ℕ} {b : Bytes} {r : Result (Joined c)} → ChainReads limit c n b r → Heard (ChainText c) b r
+    heard (starts {c = c} x y) = heard-on y (span (lift-all (one-link c) (heard-link x)))
+    heard (start-stops {c = c} x) = lift-all (one-link c) (heard-link x)
 
-    heard-path-on : {n : ℕ} {p : Path} {b : Bytes} {r : Result Path} → PathGoesOn limit n p b r → {before : Bytes} → Span PathText before p b → Heard PathText before r
-    heard-path-on (bar x y) v = heard-path-on y (join (λ s u. grammar.bar) v (span (heard-sequence x)))
-    heard-path-on (bar-stops x) v = join-stop (λ s u q w w′. (_, grammar.bar w w′)) v (heard-sequence x)
-    heard-path-on (no-bar h) v = whole v
+    heard-on : {c : Chain} {n : ℕ} {x : Joined c} {b : Bytes} {r : Result (Joined c)}
+        → GoesOn limit c n x b r → {before : Bytes} → Span (ChainText c) before x b → Heard (ChainText c) before r
+    heard-on (joined {c = c} e x y) v = heard-on y (link-on c e v (span (heard-link x)))
+    heard-on (joined-stops {c = c} e x) v = link-stops c e v (heard-link x)
+    heard-on (ends h) v = whole v
 
-    heard-sequence : {n : ℕ} {b : Bytes} {r : Result Path} → SequenceReads limit n b r → Heard SequenceText b r
-    heard-sequence (sequence x y) = heard-sequence-on y (lift (λ s w. grammar.one-item w) (span (heard-item x)))
-    heard-sequence (sequence-stops x) = lift-stop (λ s q w. (q, grammar.one-item w)) (heard-item x)
-
-    heard-sequence-on : {n : ℕ} {p : Path} {b : Bytes} {r : Result Path} → SequenceGoesOn limit n p b r → {before : Bytes} → Span SequenceText before p b → Heard SequenceText before r
-    heard-sequence-on (slash x y) v = heard-sequence-on y (join (λ s u. grammar.slash) v (span (heard-item x)))
-    heard-sequence-on (slash-stops x) v = join-stop (λ s u q w w′. (_, grammar.slash w w′)) v (heard-item x)
-    heard-sequence-on (no-slash h) v = whole v
-
-    heard-item : {n : ℕ} {b : Bytes} {r : Result Path} → ItemReads limit n b r → Heard ItemText b r
-    heard-item (item x y) = heard-stars y (lift (λ s w. grammar.an-atom w) (span (heard-atom x)))
-    heard-item (item-stops x) = lift-stop (λ s q w. (q, grammar.an-atom w)) (heard-atom x)
+    heard-link : {c : Chain} {n : ℕ} {b : Bytes} {r : Result (Joined c)} → LinkReads limit c n b r → Heard (LinkText c) b r
+    heard-link (sequence x) = heard x
+    heard-link (item x y) = heard-stars y (lift (λ s w. grammar.an-atom w) (span (heard-atom x)))
+    heard-link (item-stops x) = lift-stop (λ s q w. (q, grammar.an-atom w)) (heard-atom x)
+    heard-link (conjunction x) = heard x
+    heard-link (exclamation x) = whole (ahead (λ s w. grammar.exclamation w) (span (heard-link x)))
+    heard-link (exclamation-stops x) = ahead-stop (λ s f w. (_, grammar.exclamation w)) (heard-link x)
+    heard-link letter-t = exactly (116 ∷ []) grammar.letter-t
+    heard-link letter-f = exactly (102 ∷ []) grammar.letter-f
+    heard-link (hash x) = whole (ahead (λ s w. grammar.hash w) (span (heard-label x)))
+    heard-link (hash-stops x) = ahead-stop (λ s l w. (_, grammar.hash w)) (heard-label x)
+    heard-link (curly x) = lift-all (λ s f w. curly-text w) (heard-bracket x)
+    heard-link (a-path h x) = whole (lift (λ s w. grammar.a-path w) (span (heard x)))
+    heard-link (a-path-stops h x) = lift-stop (λ s p w. (_, grammar.a-path w)) (heard x)
 
     heard-atom : {n : ℕ} {b : Bytes} {r : Result Path} → AtomReads limit n b r → Heard AtomText b r
     heard-atom dot = exactly (46 ∷ []) grammar.dot
@@ -132,44 +200,13 @@ module _ {limit : ℕ} where
     heard-atom caret = exactly (94 ∷ []) grammar.caret
     heard-atom greater = exactly (62 ∷ []) grammar.greater
     heard-atom less = exactly (60 ∷ []) grammar.less
-    heard-atom (square l x) = whole (closed 93 (λ s w. grammar.square w) (span (heard-filter x)))
-    heard-atom (square-open l x h) = unclosed 93 (λ s f w. (_, grammar.square w)) (span (heard-filter x))
-    heard-atom (square-stops l x) = closed-stop 93 (λ s f w. (_, grammar.square w)) (heard-filter x)
-    heard-atom (square-deep l) = begun [] (91 ∷ 116 ∷ 93 ∷ []) refl (grammar.square (grammar.one-conjunction (grammar.one-term grammar.letter-t))) bracket
-    heard-atom (round l x) = whole (closed 41 (λ s w. grammar.round w) (span (heard-path x)))
-    heard-atom (round-open l x h) = unclosed 41 (λ s p w. (_, grammar.round w)) (span (heard-path x))
-    heard-atom (round-stops l x) = closed-stop 41 (λ s p w. (_, grammar.round w)) (heard-path x)
-    heard-atom (round-deep l) = begun [] (40 ∷ 46 ∷ 41 ∷ []) refl (grammar.round (grammar.one-sequence (grammar.one-item (grammar.an-atom grammar.dot)))) bracket
+    heard-atom (square x) = whole (lift (λ s w. square-text w) (span (heard-bracket x)))
+    heard-atom (square-stops x) = lift-stop (λ s f w. (_, square-text w)) (heard-bracket x)
+    heard-atom (round x) = lift-all (λ s p w. round-text w) (heard-bracket x)
     heard-atom (no-atom h) = begun [] (46 ∷ []) refl grammar.dot anything
 
-    pub heard-filter : {n : ℕ} {b : Bytes} {r : Result Filter} → FilterReads limit n b r → Heard FilterText b r
-    heard-filter (filter x y) = heard-filter-on y (lift (λ s w. grammar.one-conjunction w) (span (heard-conjunction x)))
-    heard-filter (filter-stops x) = lift-stop (λ s f w. (f, grammar.one-conjunction w)) (heard-conjunction x)
-
-    heard-filter-on : {n : ℕ} {f : Filter} {b : Bytes} {r : Result Filter} → FilterGoesOn limit n f b r → {before : Bytes} → Span FilterText before f b → Heard FilterText before r
-    heard-filter-on (plus x y) v = heard-filter-on y (join (λ s u. grammar.plus) v (span (heard-conjunction x)))
-    heard-filter-on (plus-stops x) v = join-stop (λ s u g w w′. (_, grammar.plus w w′)) v (heard-conjunction x)
-    heard-filter-on (no-plus h) v = whole v
-
-    heard-conjunction : {n : ℕ} {b : Bytes} {r : Result Filter} → ConjunctionReads limit n b r → Heard ConjunctionText b r
-    heard-conjunction (conjunction x y) = heard-conjunction-on y (lift (λ s w. grammar.one-term w) (span (heard-term x)))
-    heard-conjunction (conjunction-stops x) = lift-stop (λ s f w. (f, grammar.one-term w)) (heard-term x)
-
-    heard-conjunction-on : {n : ℕ} {f : Filter} {b : Bytes} {r : Result Filter} → ConjunctionGoesOn limit n f b r → {before : Bytes} → Span ConjunctionText before f b → Heard ConjunctionText before r
-    heard-conjunction-on (ampersand x y) v = heard-conjunction-on y (join (λ s u. grammar.ampersand) v (span (heard-term x)))
-    heard-conjunction-on (ampersand-stops x) v = join-stop (λ s u g w w′. (_, grammar.ampersand w w′)) v (heard-term x)
-    heard-conjunction-on (no-ampersand h) v = whole v
-
-    heard-term : {n : ℕ} {b : Bytes} {r : Result Filter} → TermReads limit n b r → Heard TermText b r
-    heard-term (exclamation x) = whole (ahead (λ s w. grammar.exclamation w) (span (heard-term x)))
-    heard-term (exclamation-stops x) = ahead-stop (λ s f w. (_, grammar.exclamation w)) (heard-term x)
-    heard-term letter-t = exactly (116 ∷ []) grammar.letter-t
-    heard-term letter-f = exactly (102 ∷ []) grammar.letter-f
-    heard-term (hash x) = whole (ahead (λ s w. grammar.hash w) (span (heard-label x)))
-    heard-term (hash-stops x) = ahead-stop (λ s l w. (_, grammar.hash w)) (heard-label x)
-    heard-term (curly l x) = whole (closed 125 (λ s w. grammar.curly w) (span (heard-filter x)))
-    heard-term (curly-open l x h) = unclosed 125 (λ s f w. (_, grammar.curly w)) (span (heard-filter x))
-    heard-term (curly-stops l x) = closed-stop 125 (λ s f w. (_, grammar.curly w)) (heard-filter x)
-    heard-term (curly-deep l) = begun [] (123 ∷ 116 ∷ 125 ∷ []) refl (grammar.curly (grammar.one-conjunction (grammar.one-term grammar.letter-t))) bracket
-    heard-term (a-path h x) = whole (lift (λ s w. grammar.a-path w) (span (heard-path x)))
-    heard-term (a-path-stops h x) = lift-stop (λ s p w. (_, grammar.a-path w)) (heard-path x)
+    heard-bracket : {k : Bracket} {n : ℕ} {b : Bytes} {r : Result (Joined (inside k))} → BracketReads limit k n b r → Heard (BracketText k) b r
+    heard-bracket (closed {k = k} e l x f) = whole (close k e f (span (heard x)))
+    heard-bracket (stays-open {k = k} e l x h) = leave k e (span (heard x))
+    heard-bracket (inside-stops {k = k} e l x) = leave-stop k e (heard x)
+    heard-bracket (too-deep {k = k} e l) = not-opened k e

@@ -3,8 +3,7 @@ use Prim.Native.Nat.{ℕ, _<_}
 use native.Mathlib.Omega.{arith}
 use mathlib.Core.Path.{_≡_, refl, sym, ap, _∙_, subst}
 use mathlib.Core.Logic.{⊎-elim}
-use mathlib.Core.List.{_++_}
-use lib.ListN.{length, drop}
+use lib.ListN.{length}
 use Rattle.reply.specs.Reply.{Said}
 use Rattle.reply.specs.Bytes.{Bytes}
 use Rattle.reply.proofs.Unique.{OneFault, Wrong, outcome-one, written-one}

@@ -7,36 +7,16 @@ use mathlib.Core.Logic.{⊎-elim}
 use mathlib.Core.List.{[], _∷_, List·Memᴰ, List·Memᴰ·append-cases}
 use lib.ListN.{length, getD, drop}
 use Rattle.reply.specs.Bytes.{Bytes}
-use Rattle.query.specs.Syntax.{Path, self, child, parent, next, previous, stay, Filter}
+use Rattle.query.specs.Syntax.{Path, self, child, parent, next, previous, stay}
 use Rattle.text.specs.Written.{pathEntries}
-use Rattle.reading.proofs.Rules.{Stop, got, stopped, atomBytes, AtomReads, FilterReads, PathReads}
+use Rattle.reading.specs.declared.Bracket.the-variants as bracket
+use Rattle.reading.proofs.Rules.{got, atomBytes, AtomReads}
 use Rattle.reading.proofs.Rules as rules
 use Rattle.tokens.specs.declared.answer.Parsed.{Parsed}
 use Rattle.tokens.specs.declared.answer.Parsed.the-variants.{Got, Broken}
-use Rattle.tokens.specs.declared.kind.Bracket.the-variants as bracket
-use Rattle.tokens.specs.Reading.{one, mostOpen, Added, broken-at, Follows, stops, atoms, brackets, Bracketed, closes, stays-open, inner-stops, too-deep, Behind, AxisOf, dot, letter-v, caret, greater, less, no-axis}
+use Rattle.tokens.specs.Reading.{one, mostOpen, Added, broken-at, Follows, stops, atoms, brackets, Behind, AxisOf, dot, letter-v, caret, greater, less, no-axis}
 use Rattle.tokens.proofs.Places.{here, inside, not-at, nor, none-of}
-use Rattle.tokens.proofs.Following.{leaf-follows, Turns, turned, wrapped}
-
--- [ filter ] is a bracket: where its reading stops
-square-stops : {k : ℕ} {b more : Bytes} {s : Stop} → Bracketed (FilterReads mostOpen) 93 k (91 ∷ b) (stopped s more) → AtomReads mostOpen k (91 ∷ b) (stopped s more)
-square-stops (stays-open o i n) = rules.square-open o i n
-square-stops (inner-stops o i) = rules.square-stops o i
-square-stops (too-deep d) = rules.square-deep d
-
--- and where it is read
-square-got : {k : ℕ} {b more : Bytes} {f : Filter} → Bracketed (FilterReads mostOpen) 93 k (91 ∷ b) (got f more) → AtomReads mostOpen k (91 ∷ b) (got (stay f) more)
-square-got (closes o i) = rules.square o i
-
--- ( path ) is a bracket: where its reading stops
-round-stops : {k : ℕ} {b more : Bytes} {s : Stop} → Bracketed (PathReads mostOpen) 41 k (40 ∷ b) (stopped s more) → AtomReads mostOpen k (40 ∷ b) (stopped s more)
-round-stops (stays-open o i n) = rules.round-open o i n
-round-stops (inner-stops o i) = rules.round-stops o i
-round-stops (too-deep d) = rules.round-deep d
-
--- and where it is read
-round-got : {k : ℕ} {b more : Bytes} {p : Path} → Bracketed (PathReads mostOpen) 41 k (40 ∷ b) (got p more) → AtomReads mostOpen k (40 ∷ b) (got p more)
-round-got (closes o i) = rules.round o i
+use Rattle.tokens.proofs.Following.{leaf-follows, turned, wrapped}
 
 -- an axis of a kind is read as its one byte, and written as one entry
 axis : (n k : ℕ) {byte kind : ℕ} {b : Bytes} → AxisOf byte kind → (kind ≡ 0 → ⊥) → (x : Path) × AtomReads mostOpen k (byte ∷ b) (got x b) × (pathEntries n x ≡ one kind 0 0 0) × (0 < byte)
@@ -63,20 +43,14 @@ none s r (no-axis a) z m = ⊎-elim a (nor s (nor r none-of)) (List·Memᴰ·app
 
 module _ {text : Bytes} {at k n : ℕ} {before : Bytes} where
   -- a square bracket, and the entry behind its filter
-  pub square-follows : {mid after : Bytes} {p r : Parsed} → getD text at 0 ≡ 91 → Follows (brackets bracket.Square) k text at before n p mid → Behind 6 mid p r after
+  pub square-follows : {mid after : Bytes} {p r : Parsed} → Follows (brackets bracket.Square) k text at before n p mid → Behind 6 mid p r after
       → Follows atoms k text at before n r after
   unfolding pathEntries
-  square-follows e f b = wrapped stay turns (le-refl at) (λ x. refl) (omega arith) f b
-    where
-      turns : Turns (brackets bracket.Square) atoms stay k k (drop at text) (drop at text)
-      turns = subst (λ (s : Bytes). Turns (brackets bracket.Square) atoms stay k k s s) (sym (here text at 91 e (omega arith))) (record { goes = square-got; halts = square-stops })
+  square-follows f b = wrapped stay (record { goes = rules.square; halts = rules.square-stops }) (le-refl at) (λ x. refl) (omega arith) f b
 
   -- a round bracket
-  pub round-follows : {after : Bytes} {p : Parsed} → getD text at 0 ≡ 40 → Follows (brackets bracket.Round) k text at before n p after → Follows atoms k text at before n p after
-  round-follows e f = turned (λ x. x) turns (le-refl at) (λ x. refl) (omega arith) f
-    where
-      turns : Turns (brackets bracket.Round) atoms (λ x. x) k k (drop at text) (drop at text)
-      turns = subst (λ (s : Bytes). Turns (brackets bracket.Round) atoms (λ x. x) k k s s) (sym (here text at 40 e (omega arith))) (record { goes = round-got; halts = round-stops })
+  pub round-follows : {after : Bytes} {p : Parsed} → Follows (brackets bracket.Round) k text at before n p after → Follows atoms k text at before n p after
+  round-follows f = turned (λ x. x) (record { goes = rules.round; halts = rules.round }) (le-refl at) (λ x. refl) (omega arith) f
 
   -- an axis
   pub axis-follows : {kind : ℕ} {after : Bytes} {p : Parsed} → AxisOf (getD text at 0) kind → (kind ≡ 0 → ⊥) → (p ≡ Got (at + 1) (n + 1)) × Added before n (one kind 0 0 0) after

@@ -8,24 +8,14 @@ use lib.ListN.{length, getD, drop}
 use Rattle.reply.specs.Bytes.{Bytes}
 use Rattle.query.specs.Syntax.{Filter, labelled, leads, always, never, not}
 use Rattle.text.specs.Written.{filterEntries}
-use Rattle.reading.proofs.Rules.{Stop, got, stopped, NotAt, termBytes, TermReads, FilterReads}
+use Rattle.reading.specs.declared.Bracket.the-variants as bracket
+use Rattle.reading.proofs.Rules.{got, NotAt, termBytes, TermReads}
 use Rattle.reading.proofs.Rules as rules
 use Rattle.tokens.specs.declared.answer.Parsed.{Parsed}
 use Rattle.tokens.specs.declared.answer.Parsed.the-variants.{Got}
-use Rattle.tokens.specs.declared.kind.Bracket.the-variants as bracket
-use Rattle.tokens.specs.Reading.{Line, one, mostOpen, Added, Follows, paths, terms, labels, brackets, Bracketed, closes, stays-open, inner-stops, too-deep, Behind}
+use Rattle.tokens.specs.Reading.{Line, one, mostOpen, Added, Follows, paths, terms, labels, brackets, Behind}
 use Rattle.tokens.proofs.Places.{here, inside, not-at}
 use Rattle.tokens.proofs.Following.{leaf-follows, Turns, turned, wrapped}
-
--- { filter } is a bracket: where its reading stops
-curly-stops : {k : ℕ} {b more : Bytes} {s : Stop} → Bracketed (FilterReads mostOpen) 125 k (123 ∷ b) (stopped s more) → TermReads mostOpen k (123 ∷ b) (stopped s more)
-curly-stops (stays-open o i n) = rules.curly-open o i n
-curly-stops (inner-stops o i) = rules.curly-stops o i
-curly-stops (too-deep d) = rules.curly-deep d
-
--- and where it is read
-curly-got : {k : ℕ} {b more : Bytes} {f : Filter} → Bracketed (FilterReads mostOpen) 125 k (123 ∷ b) (got f more) → TermReads mostOpen k (123 ∷ b) (got f more)
-curly-got (closes o i) = rules.curly o i
 
 -- what is read behind a byte is read with it
 from-behind : (text : Bytes) (at : ℕ) {line : Line} {wrap : line .Thing → Filter} {j k byte : ℕ} → getD text at 0 ≡ byte → 0 < byte
@@ -64,11 +54,8 @@ module _ {text : Bytes} {at k n : ℕ} {before : Bytes} where
       turned labelled (from-behind text at e (omega arith) (record { goes = rules.hash; halts = rules.hash-stops })) (le-add-right at 1) (λ x. refl) (omega arith) f
 
   -- { filter }
-  pub curly-follows : {after : Bytes} {p : Parsed} → getD text at 0 ≡ 123 → Follows (brackets bracket.Curly) k text at before n p after → Follows terms k text at before n p after
-  curly-follows e f = turned (λ x. x) turns (le-refl at) (λ x. refl) (omega arith) f
-    where
-      turns : Turns (brackets bracket.Curly) terms (λ x. x) k k (drop at text) (drop at text)
-      turns = subst (λ (s : Bytes). Turns (brackets bracket.Curly) terms (λ x. x) k k s s) (sym (here text at 123 e (omega arith))) (record { goes = curly-got; halts = curly-stops })
+  pub curly-follows : {after : Bytes} {p : Parsed} → Follows (brackets bracket.Curly) k text at before n p after → Follows terms k text at before n p after
+  curly-follows f = turned (λ x. x) (record { goes = rules.curly; halts = rules.curly }) (le-refl at) (λ x. refl) (omega arith) f
 
   -- a path
   pub leads-follows : {mid after : Bytes} {p r : Parsed} → ¬ List·Memᴰ (getD text at 0) termBytes → Follows paths k text at before n p mid → Behind 17 mid p r after

@@ -1,6 +1,6 @@
 -- What the readers of the parts of a text come to, in terms of the rules of reading: what is read, up to where, and what is written for it.
 -- Nothing here has to be believed: call 2's promise is stated without it, and proved from it.
-use Prim.Native.Nat.{ℕ, suc, _+_, _-_, _*_, _≤_, _<_}
+use Prim.Native.Nat.{ℕ, _+_, _-_, _*_, _≤_, _<_}
 use mathlib.Core.Path.{_≡_}
 use mathlib.Core.List.{[], _∷_, _++_, List·Memᴰ}
 use lib.ListN.{length, getD, take, drop}
@@ -8,15 +8,15 @@ use Rattle.reply.specs.Bytes.{Bytes}
 use Rattle.query.specs.Syntax.{Path, Filter}
 use Rattle.query.specs.Table.{Entries, entryBytes}
 use Rattle.text.specs.Written.{pathEntries, filterEntries}
-use Rattle.reading.proofs.Rules.{Stop, broken, deep, Result, got, stopped, NotAt, LabelReads, PathReads, SequenceReads, ItemReads, AtomReads, FilterReads, ConjunctionReads, TermReads}
+use Rattle.reading.specs.declared.Chain.{Chain}
+use Rattle.reading.specs.declared.Chain.the-variants as chain
+use Rattle.reading.specs.declared.Bracket.{Bracket}
+use Rattle.reading.proofs.Parts.{Joined, inside}
+use Rattle.reading.proofs.Rules.{Stop, broken, deep, Result, got, stopped, LabelReads, ChainReads, LinkReads, AtomReads, BracketReads}
 use Rattle.tokens.specs.declared.answer.Parsed.{Parsed}
 use Rattle.tokens.specs.declared.answer.Parsed.the-variants.{Got, Broken, Deep}
-use Rattle.tokens.specs.declared.kind.Chain.{Chain}
-use Rattle.tokens.specs.declared.kind.Chain.the-variants as chain
 use Rattle.tokens.specs.declared.kind.Sort.{Sort}
 use Rattle.tokens.specs.declared.kind.Sort.the-variants as sort
-use Rattle.tokens.specs.declared.kind.Bracket.{Bracket}
-use Rattle.tokens.specs.declared.kind.Bracket.the-variants as bracket
 
 -- A kind of thing that is read: the rules that read it, what is written for it behind n entries, and how far that stays below two entries
 -- for each byte.
@@ -68,71 +68,41 @@ pub record Ready (text : Bytes) (at : ℕ) (table : Bytes) (n : ℕ) : Type 0 wh
 abbrev pub mostOpen : ℕ
 mostOpen = 32
 
--- The lines of the grammar. A path is used as a filter by one more entry, so it keeps one spare.
-abbrev pub paths : Line
-paths = asLine (PathReads mostOpen) pathEntries 1
-
-abbrev pub items : Line
-items = asLine (ItemReads mostOpen) pathEntries 1
-
-abbrev pub atoms : Line
-atoms = asLine (AtomReads mostOpen) pathEntries 1
-
-abbrev pub filters : Line
-filters = asLine (FilterReads mostOpen) filterEntries 0
-
-abbrev pub terms : Line
-terms = asLine (TermReads mostOpen) filterEntries 0
-
--- paths and sequences are paths, filters and conjunctions filters
-abbrev pub Joined : Chain → Type 0
-Joined chain.Path = Path
-Joined chain.Sequence = Path
-Joined chain.Filter = Filter
-Joined chain.Conjunction = Filter
-
--- what is written for them
+-- what is written for a chain
 abbrev pub joinedEntries : (c : Chain) → ℕ → Joined c → Entries
 joinedEntries chain.Path = pathEntries
 joinedEntries chain.Sequence = pathEntries
 joinedEntries chain.Filter = filterEntries
 joinedEntries chain.Conjunction = filterEntries
 
--- and spared
+-- and spared: a path is used as a filter by one more entry
 abbrev pub joinedSpare : Chain → ℕ
 joinedSpare chain.Path = 1
 joinedSpare chain.Sequence = 1
 joinedSpare chain.Filter = 0
 joinedSpare chain.Conjunction = 0
 
--- the rules that read them
-abbrev pub ChainReads : (c : Chain) → ℕ → Bytes → Result (Joined c) → Type 0
-ChainReads chain.Path = PathReads mostOpen
-ChainReads chain.Sequence = SequenceReads mostOpen
-ChainReads chain.Filter = FilterReads mostOpen
-ChainReads chain.Conjunction = ConjunctionReads mostOpen
-
--- the rules that read their links
-abbrev pub LinkReads : (c : Chain) → ℕ → Bytes → Result (Joined c) → Type 0
-LinkReads chain.Path = SequenceReads mostOpen
-LinkReads chain.Sequence = ItemReads mostOpen
-LinkReads chain.Filter = ConjunctionReads mostOpen
-LinkReads chain.Conjunction = TermReads mostOpen
-
--- what is made of links that a byte joins
+-- The lines of the grammar: the chains, their links, and atoms.
 abbrev pub chains : Chain → Line
-chains c = asLine (ChainReads c) (joinedEntries c) (joinedSpare c)
+chains c = asLine (ChainReads mostOpen c) (joinedEntries c) (joinedSpare c)
 
--- the links of a chain
 abbrev pub links : Chain → Line
-links c = asLine (LinkReads c) (joinedEntries c) (joinedSpare c)
+links c = asLine (LinkReads mostOpen c) (joinedEntries c) (joinedSpare c)
 
--- the byte that joins the links: | / + &
-abbrev pub joining : Chain → ℕ
-joining chain.Path = 124
-joining chain.Sequence = 47
-joining chain.Filter = 43
-joining chain.Conjunction = 38
+abbrev pub paths : Line
+paths = chains chain.Path
+
+abbrev pub filters : Line
+filters = chains chain.Filter
+
+abbrev pub items : Line
+items = links chain.Sequence
+
+abbrev pub terms : Line
+terms = links chain.Conjunction
+
+abbrev pub atoms : Line
+atoms = asLine (AtomReads mostOpen) pathEntries 1
 
 -- the kind of two links that are joined
 abbrev pub joinedKind : Chain → ℕ
@@ -167,28 +137,9 @@ pub record Nots (text : Bytes) (at next : ℕ) : Type 0 where
   pub each : (k : ℕ) → k < next → at ≤ k → getD text k 0 ≡ 33
   pub other : getD text next 0 ≡ 33 → ⊥
 
--- A bracket opens with the first byte: what stands in it is read with one more bracket open, up to the byte that closes it.
-pub data Bracketed {A : Type 0} (inner : ℕ → Bytes → Result A → Type 0) (close : ℕ) : ℕ → Bytes → Result A → Type 0 where
-  closes : {k c : ℕ} {b more : Bytes} {x : A} → k < mostOpen → inner (suc k) b (got x (close ∷ more)) → Bracketed inner close k (c ∷ b) (got x more)
-  stays-open : {k c : ℕ} {b more : Bytes} {x : A} → k < mostOpen → inner (suc k) b (got x more) → NotAt (close ∷ []) more → Bracketed inner close k (c ∷ b) (stopped broken more)
-  inner-stops : {k c : ℕ} {b more : Bytes} {s : Stop} → k < mostOpen → inner (suc k) b (stopped s more) → Bracketed inner close k (c ∷ b) (stopped s more)
-  too-deep : {k c : ℕ} {b : Bytes} → mostOpen ≤ k → Bracketed inner close k (c ∷ b) (stopped deep (c ∷ b))
-
--- the byte that closes a bracket: ] ) }
-abbrev pub closingByte : Bracket → ℕ
-closingByte bracket.Square = 93
-closingByte bracket.Round = 41
-closingByte bracket.Curly = 125
-
--- what stands in a bracket
-abbrev pub insides : Bracket → Line
-insides bracket.Square = filters
-insides bracket.Round = paths
-insides bracket.Curly = filters
-
 -- A bracket with what stands in it: its two bytes write nothing.
 abbrev pub brackets : Bracket → Line
-brackets k = asLine (Bracketed (insides k .reads) (closingByte k)) (insides k .written) (insides k .spare + 4)
+brackets k = asLine (BracketReads mostOpen k) (joinedEntries (inside k)) (joinedSpare (inside k) + 4)
 
 -- The next place, or the place of the stop.
 abbrev pub placeOf : Parsed → ℕ

@@ -1,8 +1,8 @@
 // The entries of the local table, each of six bytes.
 use crate::answer::Parsed;
 use crate::answer::passed;
-use crate::kind::Chain;
 use crate::kind::kind_of;
+use reading::Chain;
 ghost use mathlib.Core.Path.{_≡_};
 ghost use Prim.Native.Nat.{_+_, _*_, _<_, _≤_};
 ghost use lib.ListN.{length};

@@ -1,6 +1,9 @@
 // The numbers of the kinds in the list of kinds, and the bytes that stand for them in a text.
+use reading::Bracket;
+use reading::Chain;
 ghost use mathlib.Core.Path.{_≡_};
-ghost use Rattle.tokens.specs.Reading.{outerChain, innerChain, joining, joinedKind, closingByte, AxisOf};
+ghost use Rattle.reading.proofs.Parts.{joining, closingByte};
+ghost use Rattle.tokens.specs.Reading.{outerChain, innerChain, joinedKind, AxisOf};
 
 pub const SELF: u8 = 1;
 
@@ -33,14 +36,6 @@ pub const NOT: u8 = 20;
 pub const AND: u8 = 21;
 
 pub const OR: u8 = 22;
-
-// What is made of links that a byte joins.
-pub enum Chain {
-    Path,
-    Sequence,
-    Filter,
-    Conjunction,
-}
 
 // A path is a chain of sequences, which are chains of items; a filter is a chain of conjunctions, which are chains of terms.
 pub enum Sort {
@@ -90,13 +85,6 @@ pub fn kind_of(chain: Chain) -> u8
         Chain::Filter => OR,
         Chain::Conjunction => AND,
     }
-}
-
-// [ and ] around a filter, ( and ) around a path, { and } around a filter.
-pub enum Bracket {
-    Square,
-    Round,
-    Curly,
 }
 
 // The byte that closes a bracket.

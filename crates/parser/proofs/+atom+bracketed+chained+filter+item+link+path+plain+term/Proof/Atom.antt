@@ -1,4 +1,5 @@
--- `atom` meets its contract, as a member of the cycle of calls. Assumes nothing.
+-- `atom`, as a member of the cycle of calls: by the byte at the place it is a bracket that is read, an axis that is written, or none.
+-- Assumes nothing.
 use Prim.Native.Nat.{ℕ}
 use mathlib.Core.Path.{_≡_, sym, _∙_, subst}
 use native.Mathlib.Nat.{le-refl}
@@ -26,62 +27,110 @@ abbrev pub own : ℕ → In 2 atom-kinds.ps
 own = given atom-kinds.ps μ-atom atom.Pre
 
 abbrev pub claims : ℕ → lts.Claims
-claims t = (byte-at-reads.Asked, byte-at-reads.Learnt, asked bracketed-kinds.ps μ-bracketed bracketed.Pre t, bracketed.Post, behind-reads.Asked, behind-reads.Learnt, axis-reads.Asked, axis-reads.Learnt, leaf-reads.Asked, leaf-reads.Learnt)
+claims t = (
+  byte-at-reads.Asked,
+  byte-at-reads.Learnt,
+  asked bracketed-kinds.ps μ-bracketed bracketed.Pre t,
+  bracketed.Post,
+  behind-reads.Asked,
+  behind-reads.Learnt,
+  axis-reads.Asked,
+  axis-reads.Learnt,
+  leaf-reads.Asked,
+  leaf-reads.Learnt,
+)
 
 module _ (t : ℕ) where
+  -- Places on the way: where the byte is seen, where each of the two brackets is read, and where no bracket opens.
+  abbrev Seen : Type 0
+  Seen = lts.After-byte-at (claims t) (own t) atom.Post
+
+  abbrev Square : Type 0
+  Square = lts.After-bracketed (claims t) (own t) atom.Post
+
+  abbrev Round : Type 0
+  Round = lts.After-bracketed2 (claims t) (own t) atom.Post
+
+  abbrev Axis : Type 0
+  Axis = lts.After-axis (claims t) (own t) atom.Post
+
+  abbrev beginning : Seen → lts.Start (claims t) (own t) atom.Post
+  beginning c = c .before .before .before
+
+  abbrev seen : Axis → Seen
+  seen c = c .before .before .before
+
   -- the byte at the place
-  at-byte : (c : lts.After-byte-at (claims t) (own t) atom.Post) {byte : ℕ} → c .byte-at .result ≡ byte → getD (c .before .before .before .args .text .now) (c .before .before .before .args .at) 0 ≡ byte
+  abbrev byte : Seen → ℕ
+  byte c = getD (beginning c .args .text .now) (beginning c .args .at) 0
+
+  at-byte : (c : Seen) {x : ℕ} → c .byte-at .result ≡ x → byte c ≡ x
   at-byte c e = sym (c .byte-at .ensures) ∙ e
 
-  not-byte : (c : lts.After-byte-at (claims t) (own t) atom.Post) {byte : ℕ} → (c .byte-at .result ≡ byte → ⊥) → getD (c .before .before .before .args .text .now) (c .before .before .before .args .at) 0 ≡ byte → ⊥
+  not-byte : (c : Seen) {x : ℕ} → (c .byte-at .result ≡ x → ⊥) → byte c ≡ x → ⊥
   not-byte c f e = f (c .byte-at .ensures ∙ e)
 
   -- its axis
-  at-axis : (c : lts.After-axis (claims t) (own t) atom.Post) → AxisOf (getD (c .before .before .before .before .before .before .args .text .now) (c .before .before .before .before .before .before .args .at) 0) (c .axis .result)
-  at-axis c = subst (λ (b : ℕ). AxisOf b (c .axis .result)) (c .before .before .before .byte-at .ensures) (c .axis .ensures)
+  at-axis : (c : Axis) → AxisOf (byte (seen c)) (c .axis .result)
+  at-axis c = subst (λ (b : ℕ). AxisOf b (c .axis .result)) (seen c .byte-at .ensures) (c .axis .ensures)
 
   pub byte-at-requires : lts.Need-byte-at-requires (claims t) (own t) atom.Post
   byte-at-requires c κs = search needs
 
   pub bracketed-requires : lts.Need-bracketed-requires (claims t) (own t) atom.Post
   bracketed-requires c κs =
-      let e = at-byte (c .before .before) (c .before .if1 .taken) in
-      (omega arith, (c .before .before .before .before .before .pre .1, inside (c .before .before .before .before .before .args .text .now) (c .before .before .before .before .before .args .at) (omega arith)))
+      let s = c .before .before in
+      (omega arith, (beginning s .pre .1, at-byte s (c .before .if1 .taken)))
 
   pub behind-requires : lts.Need-behind-requires (claims t) (own t) atom.Post
-  behind-requires c κs = room-after (c .before .before .before .bracketed .ensures) (c .before .before .before .before .before .before .before .before .before .pre .1) (le-refl _) (omega arith) (c .before .before .before .bracketed .kept .1 .1 .1 .0)
+  behind-requires c κs =
+      let read : Square = c .before .before .before in
+      let s : Seen = read .before .before .before in
+      room-after (read .bracketed .ensures) (beginning s .pre .1) (le-refl _) (omega arith) (read .bracketed .kept .1 .1 .1 .0)
 
   pub same-length : lts.Need-same-length (claims t) (own t) atom.Post
   same-length c = search needs
 
   pub returns : lts.Need-returns (claims t) (own t) atom.Post
-  returns c = square-follows (at-byte (c .before .before .before .before .before .before .before .before .before) (c .before .before .before .before .before .before .before .before .if1 .taken)) (c .before .before .before .before .before .before .bracketed .ensures) (c .before .before .behind .ensures)
+  returns c =
+      let wrote = c .before .before in
+      let read : Square = wrote .before .before .before .before in
+      square-follows (read .bracketed .ensures) (wrote .behind .ensures)
 
   pub bracketed-requires-2 : lts.Need-bracketed-requires-2 (claims t) (own t) atom.Post
   bracketed-requires-2 c κs =
-      let e = at-byte (c .before .before .before) (c .before .if2 .taken) in
-      (omega arith, (c .before .before .before .before .before .before .pre .1, inside (c .before .before .before .before .before .before .args .text .now) (c .before .before .before .before .before .before .args .at) (omega arith)))
+      let s = c .before .before .before in
+      (omega arith, (beginning s .pre .1, at-byte s (c .before .if2 .taken)))
 
   pub same-length-2 : lts.Need-same-length-2 (claims t) (own t) atom.Post
   same-length-2 c = search needs
 
   pub returns-2 : lts.Need-returns-2 (claims t) (own t) atom.Post
-  returns-2 c = round-follows (at-byte (c .before .before .before .before .before .before) (c .before .before .before .before .if2 .taken)) (c .before .before .bracketed2 .ensures)
+  returns-2 c = let read : Round = c .before .before in round-follows (read .bracketed2 .ensures)
 
   pub axis-requires : lts.Need-axis-requires (claims t) (own t) atom.Post
   axis-requires c κs = search needs
 
   pub returns-3 : lts.Need-returns-3 (claims t) (own t) atom.Post
-  returns-3 c = no-atom (c .before .before .before .before .before .before .before .pre .1 .within) (not-byte (c .before .before .before .before) (c .before .before .before .if1 .left)) (not-byte (c .before .before .before .before) (c .before .before .if2 .left)) (at-axis (c .before)) (c .if3 .taken)
+  returns-3 c =
+      let a : Axis = c .before in
+      let s = seen a in
+      no-atom (beginning s .pre .1 .within) (not-byte s (a .before .before .if1 .left)) (not-byte s (a .before .if2 .left)) (at-axis a) (c .if3 .taken)
 
   pub add-leaf : lts.Need-add-leaf (claims t) (own t) atom.Post
   add-leaf c = search needs
 
   pub leaf-requires : lts.Need-leaf-requires (claims t) (own t) atom.Post
-  leaf-requires c κs = omega (arith, inside (c .before .before .before .before .before .before .before .before .args .text .now) (c .before .before .before .before .before .before .before .before .args .at) (axis-seen (at-axis (c .before .before)) (c .before .if3 .left)), c .before .before .before .before .before .before .before .before .pre .1 .room)
+  leaf-requires c κs =
+      let a : Axis = c .before .before in
+      let s = beginning (seen a) in
+      omega (arith, inside (s .args .text .now) (s .args .at) (axis-seen (at-axis a) (c .before .if3 .left)), s .pre .1 .room)
 
   pub same-length-3 : lts.Need-same-length-3 (claims t) (own t) atom.Post
   same-length-3 c = search needs
 
   pub returns-4 : lts.Need-returns-4 (claims t) (own t) atom.Post
-  returns-4 c = axis-follows (at-axis (c .before .before .before .before .before)) (c .before .before .before .before .if3 .left) (c .before .before .leaf .ensures)
+  returns-4 c =
+      let wrote = c .before .before in
+      let chosen = wrote .before .before in
+      axis-follows (at-axis (chosen .before)) (chosen .if3 .left) (wrote .leaf .ensures)

@@ -1,4 +1,4 @@
--- `chained` meets its contract, as a member of the cycle of calls. Each turn reads a link of the inner chain; where that chain ends, it is
+-- `chained`, as a member of the cycle of calls: each turn reads a link of the inner chain; where that chain ends, it is
 -- a link of the outer one. Assumes nothing.
 use Prim.Native.Nat.{ℕ, _+_, _-_, _*_, _≤_, _<_}
 use mathlib.Core.Path.{_≡_, refl, sym, ap, _∙_, subst}
@@ -7,12 +7,13 @@ use borrow.Author.Needs.{needs}
 use borrow.Fn.Kinds.{In}
 use native.Mathlib.Omega.{arith}
 use Rattle.reply.specs.Bytes.{Bytes}
+use Rattle.reading.specs.declared.Chain.{Chain}
+use Rattle.reading.proofs.Parts.{joining}
 use Rattle.tokens.specs.declared.answer.Parsed.the-variants.{Got}
-use Rattle.tokens.specs.declared.kind.Chain.{Chain}
-use Rattle.tokens.specs.Reading.{Follows, Ready, chains, links, joining, outerChain, innerChain}
+use Rattle.tokens.specs.Reading.{Follows, Ready, links, outerChain, innerChain}
 use Rattle.tokens.proofs.Places.{inside}
 use Rattle.tokens.proofs.Following.{got-stands}
-use Rattle.tokens.proofs.Chains.{GoesOn, chaining, Going, ended}
+use Rattle.tokens.proofs.Chains.{joint-seen, Chained, ended}
 use Rattle.tokens.proofs.Begun.{first, further, linked, not-linked, begun-on, begun-ready, room-to-join, as-link, Standing}
 use Rattle.parser.proofs.+atom+bracketed+chained+filter+item+link+path+plain+term.Proof.Measures.{given, asked, μ-chained, μ-link}
 use Rattle.parser.proofs.+atom+bracketed+chained+filter+item+link+path+plain+term.Lts-chained as lts
@@ -120,7 +121,7 @@ module _ (t : ℕ) where
 
   -- what is read of a chain from a place on, where the table has so many entries
   abbrev Reading : Head → Chain → ℕ → Bytes → ℕ → ℕ → ℕ → Bytes → Type 0
-  Reading c of = Going (chains of) (GoesOn of (depth c)) (depth c) (text c)
+  Reading c of = Chained of (depth c) (text c)
 
   -- where the chains stand at the loop's head
   standing : (c : Head)
@@ -191,7 +192,7 @@ module _ (t : ℕ) where
       let i = c .before in
       let h = origin i in
       let other : byte i ≡ joining (inner h) → ⊥ = λ e. c .if1 .left (byte-read i ∙ e ∙ sym (inner-joint i)) in
-      as-link (beginning h .args .of) (ended (chaining (inner h)) (reading-inner i) other)
+      as-link (beginning h .args .of) (ended (inner h) (reading-inner i) other)
 
   -- Behind the entry that joins that: the table, and so much of the outer chain is read.
   abbrev table-outer : Outer → Bytes
@@ -215,7 +216,7 @@ module _ (t : ℕ) where
 
   -- Where the byte is that of the inner or of the outer chain, it is in the text.
   in-text : (c : Inner) (of : Chain) → byte c ≡ joining of → last (more c) < length (text (origin c))
-  in-text c of e = inside (text (origin c)) (last (more c)) (subst (λ (b : ℕ). 0 < b) (sym e) (chaining of .seen))
+  in-text c of e = inside (text (origin c)) (last (more c)) (subst (λ (b : ℕ). 0 < b) (sym e) (joint-seen of))
 
   abbrev Goes-inner : Type 0
   Goes-inner = lts.Then1 (claims t) (own t) chained.Post Inv-loop μ-loop
@@ -317,7 +318,7 @@ module _ (t : ℕ) where
   returns-2 c =
       let o = c .before in
       let i = ended-inner o .before in
-      ended (chaining (outer (origin i))) (reading-outer o) (λ e. c .if2 .taken (byte-read i ∙ e ∙ sym (outer-joint o)))
+      ended (outer (origin i)) (reading-outer o) (λ e. c .if2 .taken (byte-read i ∙ e ∙ sym (outer-joint o)))
 
   pub add-next-2 : lts.Need-add-next-2 (claims t) (own t) chained.Post Inv-loop μ-loop
   add-next-2 c =

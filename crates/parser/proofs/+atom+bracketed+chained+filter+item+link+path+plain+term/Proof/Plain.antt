@@ -105,7 +105,7 @@ module _ (t : ℕ) where
   pub bracketed-requires : lts.Need-bracketed-requires (claims t) (own t) plain.Post
   bracketed-requires c κs =
       let seen = c .before .before in
-      (omega arith, (beginning seen .pre .1 .0, in-text seen 123 (c .before .match .keys4) (omega arith)))
+      (omega arith, (beginning seen .pre .1 .0, at-byte seen (c .before .match .keys4)))
 
   pub path-requires : lts.Need-path-requires (claims t) (own t) plain.Post
   path-requires c κs = search needs
@@ -145,8 +145,8 @@ module _ (t : ℕ) where
 
   pub returns-4 : lts.Need-returns-4 (claims t) (own t) plain.Post
   returns-4 c =
-      let chosen = c .before .before .before .before in
-      curly-follows (at-byte (chosen .before) (chosen .match .keys4)) (c .before .before .bracketed .ensures)
+      let read = c .before .before in
+      curly-follows (read .bracketed .ensures)
 
   pub same-length-5 : lts.Need-same-length-5 (claims t) (own t) plain.Post
   same-length-5 c = search needs
