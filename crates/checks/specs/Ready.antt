@@ -1,21 +1,29 @@
 -- The checks of a call that takes several inputs, in 01's "Order": the room, then each input in turn.
 use Prim.Native.Nat.{ℕ, _≤_, _<_}
 use lib.ListN.{length}
-use Rattle.reply.specs.Reply.{Said, count, refused}
+use Rattle.reply.specs.declared.Reply.{Reply}
+use Rattle.reply.specs.declared.Reply.the-variants.{Count, Refused}
+use Rattle.reply.specs.Reply.{Said}
 use Rattle.reply.specs.Bytes.{Bytes}
-use Rattle.reply.specs.Outcome.{InTurn}
+use Rattle.reply.specs.Outcome.{InTurn, Checked}
 use Rattle.roll.specs.Roll.{nodes, Roll, RollFault}
 use Rattle.query.specs.Table.{entries}
 use Rattle.query.specs.Fault.{curators, answered, Query, QueryFault}
 use Rattle.view.specs.Promise.{Annotated, AnnotatedFault}
 
--- What the checks say before a call does its work. `room`: the bytes that it must be lent; `given`: those that it is lent.
--- `size`: what is counted where all is in order.
-pub data Ready (room given : ℕ) (Right : Type 0) (Fault : ℕ → ℕ → Type 0) (size : ℕ) : Said → Type 0 where
-  ready : room ≤ given → Right → Ready room given Right Fault size (count size)
-  -- 1, "the output is shorter than the room named", before every other fault
-  short : given < room → Ready room given Right Fault size (refused 1 0)
-  faulty : {n p : ℕ} → room ≤ given → Fault n p → Ready room given Right Fault size (refused n p)
+-- Of two replies in turn: the first refusal, or where there is none the count of the first.
+abbrev pub inTurn : Reply → Reply → Reply
+inTurn (Refused x) rest = Refused x
+inTurn (Count c) (Refused x) = Refused x
+inTurn (Count c) (Count d) = Count c
+
+-- 1, "the output is shorter than the room named": a call must be lent `room` bytes, and is lent `given`.
+pub data Short (room given : ℕ) : ℕ → ℕ → Type 0 where
+  short : given < room → Short room given 1 0
+
+-- What the checks say before a call does its work: the room comes first, as an input in turn. `size`: what is counted where all is in order.
+abbrev pub Ready : ℕ → ℕ → Type 0 → (ℕ → ℕ → Type 0) → ℕ → Said → Type 0
+Ready room given Right Fault size said = Checked ((room ≤ given) × Right) (InTurn (room ≤ given) (Short room given) Fault) size said
 
 -- Call 3, "answer on a roll": room 512; the roll, then the query.
 unfoldable pub ReadyToAnswer : ℕ → Bytes → Bytes → Said → Type 0

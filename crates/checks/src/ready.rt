@@ -11,9 +11,10 @@ use tables::limits::ANSWER_ENTRIES;
 use tables::limits::ANSWER_HEIGHT;
 use tables::limits::CURATOR_ENTRIES;
 use tables::limits::CURATOR_HEIGHT;
+ghost use mathlib.Core.Path.{_≡_};
 ghost use Rattle.reply.specs.Reply.{said};
 ghost use Rattle.checks.specs.Checks.{AnnotatedChecked, AskedChecked};
-ghost use Rattle.checks.specs.Ready.{ReadyToAnswer, ReadyToCut, ReadyToRewrite, ReadyForCurator};
+ghost use Rattle.checks.specs.Ready.{inTurn, ReadyToAnswer, ReadyToCut, ReadyToRewrite, ReadyForCurator};
 
 // "a bitmap of record numbers; room 512 bytes", and the same for view positions
 const BITMAP: usize = 512;
@@ -43,6 +44,19 @@ fn check_asked(annotation: &[u8], filters: &[u8], query: &[u8]) -> Reply
     check_query(query, CURATOR_ENTRIES, CURATOR_HEIGHT)
 }
 
+// What is said of two inputs in turn: the first refusal, or where there is none the count of the first.
+fn in_turn(first: Reply, rest: Reply) -> Reply
+    ensures { λ r. ⌜ r ≡ inTurn first rest ⌝ }
+{
+    let Reply::Count(_) = first else {
+        return first;
+    };
+    let Reply::Count(_) = rest else {
+        return rest;
+    };
+    first
+}
+
 // Call 3: the number of nodes.
 pub fn ready_to_answer(room: usize, roll: &[u8], query: &[u8]) -> Reply
     ensures { λ r. ⌜ ReadyToAnswer room (now (roll .entry)) (now (query .entry)) (said r) ⌝ }
@@ -50,15 +64,10 @@ pub fn ready_to_answer(room: usize, roll: &[u8], query: &[u8]) -> Reply
     if room < BITMAP {
         return refuse(Reason::ShortRoom, 0);
     }
-    let nodes = check_roll(roll);
-    let Reply::Count(_) = nodes else {
-        return nodes;
-    };
-    let rest = check_query(query, ANSWER_ENTRIES, ANSWER_HEIGHT);
-    let Reply::Count(_) = rest else {
-        return rest;
-    };
-    nodes
+    in_turn(
+        check_roll(roll),
+        check_query(query, ANSWER_ENTRIES, ANSWER_HEIGHT),
+    )
 }
 
 // Call 4: the number of nodes.
@@ -68,15 +77,7 @@ pub fn ready_to_cut(room: usize, roll: &[u8], annotation: &[u8], filters: &[u8])
     if room < roll.len() {
         return refuse(Reason::ShortRoom, 0);
     }
-    let nodes = check_roll(roll);
-    let Reply::Count(_) = nodes else {
-        return nodes;
-    };
-    let rest = check_annotated(annotation, filters);
-    let Reply::Count(_) = rest else {
-        return rest;
-    };
-    nodes
+    in_turn(check_roll(roll), check_annotated(annotation, filters))
 }
 
 // Call 5: the number of entries of the query.
@@ -102,13 +103,5 @@ pub fn ready_for_curator(
     if room < BITMAP {
         return refuse(Reason::ShortRoom, 0);
     }
-    let nodes = check_roll(roll);
-    let Reply::Count(_) = nodes else {
-        return nodes;
-    };
-    let rest = check_asked(annotation, filters, query);
-    let Reply::Count(_) = rest else {
-        return rest;
-    };
-    nodes
+    in_turn(check_roll(roll), check_asked(annotation, filters, query))
 }

@@ -1,4 +1,4 @@
--- `checks::ready::check_annotated` meets its contract: the two checks in turn. Assumes nothing.
+-- `checks::ready::check_annotated` checks the filter table, and then the annotation against it. Assumes nothing.
 use borrow.Author.Needs.{needs}
 use Rattle.reply.proofs.Checking.{right-of}
 use Rattle.view.specs.Promise.{AnnotatedFault}

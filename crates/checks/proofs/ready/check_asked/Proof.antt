@@ -1,4 +1,4 @@
--- `checks::ready::check_asked` meets its contract: the two checks in turn. Assumes nothing.
+-- `checks::ready::check_asked` checks filter table and annotation, and then the query. Assumes nothing.
 use borrow.Author.Needs.{needs}
 use Rattle.reply.proofs.Checking.{right-of}
 use Rattle.checks.proofs.Turns.{first-refused, rest-checked}

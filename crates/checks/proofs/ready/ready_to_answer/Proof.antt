@@ -1,9 +1,8 @@
--- `checks::ready::ready_to_answer` meets its contract: the room, then the two checks in turn. Assumes nothing.
+-- `checks::ready::ready_to_answer` checks in 01's order: the room, then the roll, and behind it the query. Assumes nothing.
 use borrow.Author.Needs.{needs}
-use Rattle.reply.proofs.Checking.{right-of}
 use Rattle.roll.specs.Promise.{RollChecked}
 use Rattle.checks.specs.Ready.{ReadyToAnswer}
-use Rattle.checks.proofs.Turns.{first-refused, first-checked, rest-refused, short-room, checked-ready}
+use Rattle.checks.proofs.Turns.{short-room, both-ready}
 use Rattle.checks.proofs.ready.ready_to_answer.Statement.{statement}
 use Rattle.checks.proofs.ready.ready_to_answer.Tie as tie
 
@@ -17,56 +16,18 @@ returns c = short-room (c .before .if1 .taken) (c .refuse .ensures)
 check-roll-requires : tie.Need-check-roll-requires
 check-roll-requires c κs = search needs
 
-enum-told : tie.Need-enum-told
-enum-told c = search needs
+check-query-requires : tie.Need-check-query-requires
+check-query-requires c κs = search needs
 
-enum-told-2 : tie.Need-enum-told-2
-enum-told-2 c = search needs
+in-turn-requires : tie.Need-in-turn-requires
+in-turn-requires c κs = search needs
 
 returns-2 : tie.Need-returns-2
 unfolding ReadyToAnswer RollChecked
 returns-2 c =
-    let checked = c .before .before in
-    checked-ready (checked .before .if1 .left) (first-refused (c .enum-told2 .given .1) (checked .check-roll .ensures))
-
-check-query-requires : tie.Need-check-query-requires
-check-query-requires c κs = search needs
-
-enum-told-3 : tie.Need-enum-told-3
-enum-told-3 c = search needs
-
-enum-told-4 : tie.Need-enum-told-4
-enum-told-4 c = search needs
-
-returns-3 : tie.Need-returns-3
-unfolding ReadyToAnswer RollChecked
-returns-3 c =
-    let rest = c .before .before in
-    let passed = rest .before in
-    let checked = passed .before .before in
-    let roll = right-of (passed .enum-told .given .1) (checked .check-roll .ensures) in
-    checked-ready (checked .before .if1 .left) (rest-refused roll (c .enum-told4 .given .1) (rest .check-query .ensures))
-
-returns-4 : tie.Need-returns-4
-unfolding ReadyToAnswer RollChecked
-returns-4 c =
-    let rest = c .before .before in
-    let checked = rest .before .before .before in
-    let query = right-of (c .enum-told3 .given .1) (rest .check-query .ensures) in
-    checked-ready (checked .before .if1 .left) (first-checked (λ roll. (roll, query)) (checked .check-roll .ensures))
+    let roll = c .before .before in
+    both-ready (roll .check-roll .result) (c .before .check-query .result) (roll .before .if1 .left) (roll .check-roll .ensures)
+    (c .before .check-query .ensures) (c .in-turn .ensures)
 
 pub ready-to-answer-spec : {M : Type 1} → statement M
-ready-to-answer-spec =
-    tie.close
-    (tie.spec
-    refuse-requires
-    returns
-    check-roll-requires
-    enum-told
-    enum-told-2
-    returns-2
-    check-query-requires
-    enum-told-3
-    enum-told-4
-    returns-3
-    returns-4)
+ready-to-answer-spec = tie.close (tie.spec refuse-requires returns check-roll-requires check-query-requires in-turn-requires returns-2)

@@ -1,4 +1,4 @@
--- `checks::ready::ready_to_rewrite` meets its contract: the room, then the check of all inputs. Assumes nothing.
+-- `checks::ready::ready_to_rewrite` checks in 01's order: the room, then filter table, annotation and query. Assumes nothing.
 use borrow.Author.Needs.{needs}
 use Rattle.checks.specs.Ready.{ReadyToRewrite}
 use Rattle.checks.proofs.Turns.{short-room, checked-ready}
