@@ -31,33 +31,33 @@ module _ {text : Bytes} {at k n : ℕ} {before : Bytes} where
       let i : at < length text = inside text at (omega arith) in
       leaf-follows {to = at + 1} f (subst (λ (b : Bytes). TermReads mostOpen k b (got f (drop (at + 1) text))) (sym (here text at byte e s)) rd) w (omega arith) (omega arith) (omega arith) l
 
-  -- t
+  -- `t` holds everywhere
   pub t-follows : {after : Bytes} {p : Parsed} → getD text at 0 ≡ 116 → (p ≡ Got (at + 1) (n + 1)) × Added before n (one 18 0 0 0) after → Follows terms k text at before n p after
   unfolding filterEntries
   t-follows e l = letter always e (omega arith) rules.letter-t refl l
 
-  -- f
+  -- and `f` nowhere
   pub f-follows : {after : Bytes} {p : Parsed} → getD text at 0 ≡ 102 → (p ≡ Got (at + 1) (n + 1)) × Added before n (one 19 0 0 0) after → Follows terms k text at before n p after
   unfolding filterEntries
   f-follows e l = letter never e (omega arith) rules.letter-f refl l
 
-  -- ! term
+  -- `!` in front of a term
   pub not-follows : {mid after : Bytes} {p r : Parsed} → getD text at 0 ≡ 33 → Follows terms k text (at + 1) before n p mid → Behind 20 mid p r after → Follows terms k text at before n r after
   unfolding filterEntries
   not-follows e f b =
       wrapped not (from-behind text at e (omega arith) (record { goes = rules.exclamation; halts = rules.exclamation-stops })) (le-add-right at 1) (λ x. refl) (omega arith) f b
 
-  -- # label
+  -- `#` and a label
   pub label-follows : {after : Bytes} {p : Parsed} → getD text at 0 ≡ 35 → Follows labels 0 text (at + 1) before n p after → Follows terms k text at before n p after
   unfolding filterEntries
   label-follows e f =
       turned labelled (from-behind text at e (omega arith) (record { goes = rules.hash; halts = rules.hash-stops })) (le-add-right at 1) (λ x. refl) (omega arith) f
 
-  -- { filter }
+  -- a filter in curly brackets
   pub curly-follows : {after : Bytes} {p : Parsed} → Follows (brackets bracket.Curly) k text at before n p after → Follows terms k text at before n p after
   curly-follows f = turned (λ x. x) (record { goes = rules.curly; halts = rules.curly }) (le-refl at) (λ x. refl) (omega arith) f
 
-  -- a path
+  -- any other byte begins a path
   pub leads-follows : {mid after : Bytes} {p r : Parsed} → ¬ List·Memᴰ (getD text at 0) termBytes → Follows paths k text at before n p mid → Behind 17 mid p r after
       → Follows terms k text at before n r after
   unfolding filterEntries

@@ -1,4 +1,4 @@
--- `read_by` meets call 2's promise, for a text of which the length is right. Assumes nothing.
+-- `read_by`: each of the three ways in which a text is read comes out as call 2 promises, where its length is right. Assumes nothing.
 use native.Mathlib.Omega.{arith}
 use mathlib.Core.Path.{sym}
 use lib.Seq.{length-take-le}
@@ -77,7 +77,8 @@ returns-3 c =
     let out = c .before .before in
     let told = out .before .before .before .before in
     let looked = told .before .before in
-    text-told _ _ (beginning looked .pre .2) (beginning looked .pre .0) (told .parsed3 .given .1) (whole looked .read-whole .ensures) (out .write-out .ensures)
+    let given = beginning looked .pre in
+    text-told _ _ (given .2) (given .0) (told .parsed3 .given .1) (whole looked .read-whole .ensures) (out .write-out .ensures)
 
 pub read-by-spec : {M : Type 1} → statement M
 read-by-spec =

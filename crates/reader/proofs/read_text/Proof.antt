@@ -1,4 +1,4 @@
--- `read_text` meets call 2's promise. Assumes nothing.
+-- `read_text`: room and length are looked at first, and a short text is read as a long one, by way of a smaller table. Assumes nothing.
 use native.Mathlib.Omega.{arith}
 use Rattle.text.specs.Promise.{bad-length}
 use Rattle.reader.proofs.Answering.{short-room, fault-told}
@@ -16,13 +16,18 @@ refuse-requires-2 : tie.Need-refuse-requires-2
 refuse-requires-2 c κs = search needs
 
 returns-2 : tie.Need-returns-2
-returns-2 c = fault-told _ _ (c .before .before .if1 .left) (bad-length (λ l. let e = c .before .if2 .taken in omega (arith, l .some))) (c .refuse2 .ensures)
+returns-2 c =
+    let empty = c .before in
+    fault-told _ _ (empty .before .if1 .left) (bad-length (λ l. let e = empty .if2 .taken in omega (arith, l .some))) (c .refuse2 .ensures)
 
 refuse-requires-3 : tie.Need-refuse-requires-3
 refuse-requires-3 c κs = search needs
 
 returns-3 : tie.Need-returns-3
-returns-3 c = fault-told _ _ (c .before .before .before .if1 .left) (bad-length (λ l. let e = c .before .if3 .taken in omega (arith, l .most))) (c .refuse3 .ensures)
+returns-3 c =
+    let long = c .before in
+    let room = long .before .before .if1 .left in
+    fault-told _ _ room (bad-length (λ l. let e = long .if3 .taken in omega (arith, l .most))) (c .refuse3 .ensures)
 
 slice-aggregate-read-by : tie.Need-slice-aggregate-read-by
 slice-aggregate-read-by c = search needs

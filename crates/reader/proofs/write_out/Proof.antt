@@ -1,8 +1,15 @@
--- `write_out` meets its contract. Assumes nothing.
+-- `write_out`: a table that is a curator's query is copied out, and any other is too large. Assumes nothing.
 use Rattle.reader.proofs.Answering.{room-enough, written-out, refused-out}
 use borrow.Author.Needs.{needs}
 use Rattle.reader.proofs.write_out.Statement.{statement}
 use Rattle.reader.proofs.write_out.Tie as tie
+
+-- The ways back: from a count that is known to the check, and from there to the beginning.
+abbrev table-checked : tie.After-checked → tie.After-check-query
+table-checked c = c .before .before
+
+abbrev start : tie.After-check-query → tie.Start
+start c = c .before .before .before
 
 check-query-requires : tie.Need-check-query-requires
 check-query-requires c κs = search needs
@@ -17,16 +24,26 @@ refuse-requires : tie.Need-refuse-requires
 refuse-requires c κs = search needs
 
 returns : tie.Need-returns
-returns c = refused-out _ (c .before .before .before .check-query .result) (c .before .before .match .keys2) (c .before .before .before .check-query .ensures) (c .refuse .ensures)
+returns c =
+    let chosen = c .before .before in
+    let check = chosen .before .check-query in
+    refused-out _ (check .result) (chosen .match .keys2) (check .ensures) (c .refuse .ensures)
 
 copy-requires : tie.Need-copy-requires
-copy-requires c κs = room-enough (c .before .before .before .before .before .before .before .args .room .now) (c .before .before .checked .given .1) (c .before .before .before .before .check-query .ensures) (c .before .before .before .before .before .before .before .pre)
+copy-requires c κs =
+    let known = c .before .before in
+    let check = table-checked known in
+    room-enough (start check .args .room .now) (known .checked .given .1) (check .check-query .ensures) (start check .pre)
 
 same-length : tie.Need-same-length
 same-length c = search needs
 
 returns-2 : tie.Need-returns-2
-returns-2 c = written-out _ (c .before .before .before .before .before .checked .given .1) (c .before .before .before .before .before .before .before .check-query .ensures) (c .before .before .before .before .before .before .before .before .before .before .pre) (c .before .before .copy .ensures .1)
+returns-2 c =
+    let copied = c .before .before in
+    let known = copied .before .before .before in
+    let check = table-checked known in
+    written-out _ (known .checked .given .1) (check .check-query .ensures) (start check .pre) (copied .copy .ensures .1)
 
 pub write-out-spec : {M : Type 1} → statement M
 write-out-spec =

@@ -1,4 +1,4 @@
--- `checks::annotation::count` meets its contract: a record is as long as an entry. Assumes nothing.
+-- `checks::annotation::count`: a record is as long as an entry. Assumes nothing.
 use mathlib.Core.Path.{sym, _∙_}
 use borrow.Author.Needs.{needs}
 use denote.Ref.{now}

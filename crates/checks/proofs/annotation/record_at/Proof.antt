@@ -1,4 +1,4 @@
--- `checks::annotation::record_at` meets its contract: record i has the fields of entry i. Assumes nothing.
+-- `checks::annotation::record_at`: record i has the fields of entry i. Assumes nothing.
 use borrow.Author.Needs.{needs}
 use denote.Ref.{now}
 use Rattle.checks.proofs.Records.{record-entry}

@@ -1,5 +1,5 @@
--- `checks::check::check_annotation` meets its contract. The loop's invariant: the records passed are right. The measure is the number of records
--- that are left. Assumes nothing.
+-- `checks::check::check_annotation` looks at the records in turn: those that were passed are right. The measure is the number of records that
+-- are left. Assumes nothing.
 use Prim.Native.Nat.{ℕ, _-_, _≤_, _<_}
 use native.Mathlib.Omega.{arith}
 use borrow.Author.Count.{below-none, below-more}
@@ -31,7 +31,7 @@ returns c =
     rw (c .refuse .ensures) (fails (bad-length (test-failed (test .whole .result) (test .whole .ensures .exact) (c .before .if1 .taken))))
 
 -- an annotation whose records are looked at has the length
-size : (c : tie.Else1 Inv-loop μ-loop) → Whole 6 32 (now (c .before .before .before .before .args .annotation))
+size : (c : tie.Else1 Inv-loop μ-loop) → let start = c .before .before .before .before in Whole 6 32 (now (start .args .annotation))
 size c = test-passed (c .before .whole .result) (c .before .whole .ensures .exact) (c .if1 .left)
 
 count-requires : tie.Need-count-requires Inv-loop μ-loop
@@ -52,7 +52,8 @@ enum-told-2 c = search needs
 returns-2 : tie.Need-returns-2 Inv-loop μ-loop
 returns-2 c =
     let checked = c .before .before in
-    passed-up (λ n p. bad-record (size (checked .before .before .before .before))) (c .enum-told2 .given .1) (checked .check-record .ensures)
+    let counted = checked .before .before .before in
+    passed-up (λ n p. bad-record (size (counted .before))) (c .enum-told2 .given .1) (checked .check-record .ensures)
 
 add-i : tie.Need-add-i Inv-loop μ-loop
 add-i c = omega arith

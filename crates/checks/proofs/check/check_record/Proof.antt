@@ -1,4 +1,4 @@
--- `checks::check::check_record` meets its contract: each test is one part of a record that is right, and a refusal is the first part that fails.
+-- `checks::check::check_record`: each test is one part of a record that is right, and a refusal is the first part that fails.
 -- Assumes nothing.
 use mathlib.Core.Path.{refl}
 use borrow.Author.Needs.{needs}
@@ -27,7 +27,9 @@ returns c =
     (malformed (test-failed (form .form-fits .result) (form .form-fits .ensures) (c .before .if1 .taken))) (c .refuse .ensures)
 
 -- a record that comes to the second test has the form
-formed : (c : tie.Else1) → let a = c .before .before .before .before .before .args in RecordForm (entries (now (a .filters))) (recordAt (records (now (a .annotation))) (a .i))
+formed : (c : tie.Else1)
+    → let a = c .before .before .before .before .before .args in
+    RecordForm (entries (now (a .filters))) (recordAt (records (now (a .annotation))) (a .i))
 formed c = let form = c .before .before in test-passed (form .form-fits .result) (form .form-fits .ensures) (c .if1 .left)
 
 refuse-requires-2 : tie.Need-refuse-requires-2

@@ -1,20 +1,16 @@
--- `filter` meets its contract, as a member of the cycle of calls. Assumes nothing.
+-- `filter`, as a member of the cycle of calls: it is what `chained` reads as a filter. Assumes nothing.
 use Prim.Native.Nat.{ℕ}
 use borrow.Author.Needs.{needs}
 use borrow.Fn.Kinds.{In}
-use Rattle.parser.proofs.+atom+bracketed+chained+filter+item+link+path+plain+term.Proof.Measures.{given, asked, μ-chained, μ-filter}
+use Rattle.parser.proofs.+atom+bracketed+chained+filter+item+link+path+plain+term.Proof.Measures.{given, μ-filter}
+use Rattle.parser.proofs.+atom+bracketed+chained+filter+item+link+path+plain+term.Proof.Path.{claims}
 use Rattle.parser.proofs.+atom+bracketed+chained+filter+item+link+path+plain+term.Lts-filter as lts
 use Rattle.parser.proofs.filter.Reads as filter
-use Rattle.parser.proofs.chained.Reads as chained
-use Rattle.parser.proofs.chained.Kinds as chained-kinds
 use Rattle.parser.proofs.filter.Kinds as filter-kinds
 
--- what it is given, and what its callees ask and say
+-- what it is given; its callee asks and says the same as of `path`
 abbrev pub own : ℕ → In 2 filter-kinds.ps
 own = given filter-kinds.ps μ-filter filter.Pre
-
-abbrev pub claims : ℕ → lts.Claims
-claims t = (asked chained-kinds.ps μ-chained chained.Pre t, chained.Post)
 
 module _ (t : ℕ) where
   pub chained-requires : lts.Need-chained-requires (claims t) (own t) filter.Post

@@ -1,4 +1,4 @@
--- `item` meets its contract, as a member of the cycle of calls. Assumes nothing.
+-- `item`, as a member of the cycle of calls: an atom is read, and each turn adds one star to it. Assumes nothing.
 use Prim.Native.Nat.{ℕ, _+_, _-_, _*_, _≤_, _<_}
 use mathlib.Core.Path.{_≡_, refl, sym, _∙_}
 use lib.ListN.{length, getD}
@@ -26,18 +26,28 @@ abbrev pub own : ℕ → In 2 item-kinds.ps
 own = given item-kinds.ps μ-item item.Pre
 
 abbrev pub claims : ℕ → lts.Claims
-claims t = (asked atom-kinds.ps μ-atom atom.Pre t, atom.Post, passed-reads.Asked, passed-reads.Learnt, byte-at-reads.Asked, byte-at-reads.Learnt, put-reads.Asked, put-reads.Learnt)
+claims t = (
+  asked atom-kinds.ps μ-atom atom.Pre t,
+  atom.Post,
+  passed-reads.Asked,
+  passed-reads.Learnt,
+  byte-at-reads.Asked,
+  byte-at-reads.Learnt,
+  put-reads.Asked,
+  put-reads.Learnt,
+)
 
 abbrev pub Inv-loop : lts.InvT-loop
 Inv-loop text at depth table₀ count next₀ written₀ table next written =
     (length table ≡ length table₀)
-    × ((before : Bytes) → Going items StarsRead depth text at before count next₀ written₀ table₀ → Going items StarsRead depth text at before count next written table)
+    × ((before : Bytes) → Going items StarsRead depth text at before count next₀ written₀ table₀
+    → Going items StarsRead depth text at before count next written table)
 
 abbrev pub μ-loop : lts.MeasureT-loop
 μ-loop text at depth table₀ count next₀ written₀ table next written = length text - next
 
 module _ (t : ℕ) where
-  -- Places on the way: the function's beginning, the loop's head, and a turn of it.
+  -- Places on the way: the function's beginning, where an atom is read, the loop's head, and a turn of it, at its test and at its entry.
   abbrev Beginning : Type 0
   Beginning = lts.Start (claims t) (own t) item.Post Inv-loop μ-loop
 
@@ -47,8 +57,20 @@ module _ (t : ℕ) where
   abbrev Turn : Type 0
   Turn = lts.Then1 (claims t) (own t) item.Post Inv-loop μ-loop
 
+  abbrev Wrote : Type 0
+  Wrote = lts.After-put (claims t) (own t) item.Post Inv-loop μ-loop
+
+  abbrev known : Head → lts.After-first (claims t) (own t) item.Post Inv-loop μ-loop
+  known c = c .before .before
+
+  abbrev at-atom : Head → lts.After-atom (claims t) (own t) item.Post Inv-loop μ-loop
+  at-atom c = known c .before .before .before .before
+
   abbrev beginning : Head → Beginning
-  beginning c = c .before .before .before .before .before .before .before .before .before .before
+  beginning c = at-atom c .before .before .before .before
+
+  abbrev turn : Wrote → Turn
+  turn c = c .before .before
 
   abbrev head : Turn → Head
   head c = c .before .before
@@ -59,11 +81,11 @@ module _ (t : ℕ) where
 
   -- so it is at the loop's head: the atom is read, and each turn goes on
   going : (c : Head) → Reading (beginning c) (c .loop .next) (c .loop .written) (c .loop .table)
-  going c = c .loop .inv .1 (beginning c .args .table .now) (atom-read (c .before .before .first .given .1) (c .before .before .before .before .before .before .atom .ensures))
+  going c = c .loop .inv .1 (beginning c .args .table .now) (atom-read (known c .first .given .1) (at-atom c .atom .ensures))
 
   -- the table keeps its length
   kept-length : (c : Head) → length (c .loop .table) ≡ length (beginning c .args .table .now)
-  kept-length c = c .loop .inv .0 ∙ c .before .before .before .before .before .before .atom .kept .1 .1 .1 .0
+  kept-length c = c .loop .inv .0 ∙ at-atom c .atom .kept .1 .1 .1 .0
 
   -- in a turn a star is the next byte
   star-next : (c : Turn) → getD (beginning (head c) .args .text .now) (head c .loop .next) 0 ≡ 42
@@ -71,7 +93,9 @@ module _ (t : ℕ) where
 
   -- it is a byte of the text, and there is room for its entry
   one-more : (c : Turn)
-      → (head c .loop .next < length (beginning (head c) .args .text .now)) × (1 ≤ head c .loop .written) × (6 * (head c .loop .written + 1) ≤ length (beginning (head c) .args .table .now))
+      → let h = head c .loop in
+      let a = beginning (head c) .args in
+      (h .next < length (a .text .now)) × (1 ≤ h .written) × (6 * (h .written + 1) ≤ length (a .table .now))
   one-more c =
       let s = beginning (head c) in
       let e = star-next c in
@@ -96,7 +120,9 @@ module _ (t : ℕ) where
   same-length c = search needs
 
   pub returns : lts.Need-returns (claims t) (own t) item.Post Inv-loop μ-loop
-  returns c = rw (c .passed .ensures) (atom-not-read (c .before .match .keys2) (c .before .before .before .before .atom .ensures))
+  returns c =
+      let looked = c .before .before in
+      rw (c .passed .ensures) (atom-not-read (c .before .match .keys2) (looked .before .before .atom .ensures))
 
   pub loop-holds : lts.Need-loop-holds (claims t) (own t) item.Post Inv-loop μ-loop
   loop-holds c = (refl, λ before g. g)
@@ -111,18 +137,24 @@ module _ (t : ℕ) where
   put-requires c κs = omega (arith, one-more (c .before) .2, kept-length (head (c .before)))
 
   pub add-next : lts.Need-add-next (claims t) (own t) item.Post Inv-loop μ-loop
-  add-next c = omega (arith, one-more (c .before .before .before .before) .0, beginning (head (c .before .before .before .before)) .good .0)
+  add-next c =
+      let own = turn (c .before .before) in
+      omega (arith, one-more own .0, beginning (head own) .good .0)
 
   pub add-written : lts.Need-add-written (claims t) (own t) item.Post Inv-loop μ-loop
-  add-written c = omega (arith, one-more (c .before .before .before .before) .2, beginning (head (c .before .before .before .before)) .good .1)
+  add-written c =
+      let own = turn (c .before .before) in
+      omega (arith, one-more own .2, beginning (head own) .good .1)
 
   pub loop-less : lts.Need-loop-less (claims t) (own t) item.Post Inv-loop μ-loop
-  loop-less c = omega (arith, one-more (c .before .before .before .before) .0)
+  loop-less c = omega (arith, one-more (turn (c .before .before)) .0)
 
   pub loop-again : lts.Need-loop-again (claims t) (own t) item.Post Inv-loop μ-loop
   loop-again c =
-      let own = c .before .before .before .before in
-      (c .before .before .put .kept .0 ∙ head own .loop .inv .0, λ before g. starred (head own .loop .inv .1 before g) (star-next own) (c .before .before .put .ensures))
+      let wrote = c .before .before in
+      let own = turn wrote in
+      let inv = head own .loop .inv in
+      (wrote .put .kept .0 ∙ inv .0, λ before g. starred (inv .1 before g) (star-next own) (wrote .put .ensures))
 
   pub same-length-2 : lts.Need-same-length-2 (claims t) (own t) item.Post Inv-loop μ-loop
   same-length-2 c = kept-length (c .before .before)

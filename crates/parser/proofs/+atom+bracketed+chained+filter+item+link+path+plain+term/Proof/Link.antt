@@ -1,4 +1,4 @@
--- `link` meets its contract, as a member of the cycle of calls. Assumes nothing.
+-- `link`, as a member of the cycle of calls: the links of a sequence are items, and those of a conjunction terms. Assumes nothing.
 use Prim.Native.Nat.{ℕ}
 use mathlib.Core.Path.{ap}
 use borrow.Author.Needs.{needs}

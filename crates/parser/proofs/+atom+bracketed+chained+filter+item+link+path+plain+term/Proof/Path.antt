@@ -1,4 +1,4 @@
--- `path` meets its contract, as a member of the cycle of calls. Assumes nothing.
+-- `path`, as a member of the cycle of calls: it is what `chained` reads as a path. Assumes nothing.
 use Prim.Native.Nat.{ℕ}
 use borrow.Author.Needs.{needs}
 use borrow.Fn.Kinds.{In}

@@ -1,4 +1,4 @@
--- `plain` meets its contract, as a member of the cycle of calls. Assumes nothing.
+-- `plain`, as a member of the cycle of calls: by the byte at the place one of four terms, or a path. Assumes nothing.
 use Prim.Native.Nat.{ℕ, _<_}
 use mathlib.Core.Path.{_≡_, sym, _∙_, subst}
 use mathlib.Core.List.{List·Memᴰ}

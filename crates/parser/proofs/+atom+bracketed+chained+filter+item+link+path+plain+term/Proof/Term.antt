@@ -1,4 +1,4 @@
--- `term` meets its contract, as a member of the cycle of calls: each turn puts one more of the `!` that were passed in front of what is read.
+-- `term`, as a member of the cycle of calls: each turn puts one more of the `!` that were passed in front of what is read.
 -- Assumes nothing.
 use Prim.Native.Nat.{ℕ, _+_, _-_, _≤_}
 use mathlib.Core.Path.{_≡_, refl, sym, _∙_, subst}

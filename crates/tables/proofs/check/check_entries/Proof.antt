@@ -1,4 +1,5 @@
--- `tables::check::check_entries` meets its contract: the walk comes to the lowest entry that is not in order or too high, or to the end. Assumes nothing.
+-- `tables::check::check_entries`: the walk comes to the lowest entry that is not in order or too high, or to the end.
+-- Assumes nothing.
 use Prim.Native.Nat.{ℕ, _-_, _≤_}
 use mathlib.Core.Path.{_≡_, refl}
 use mathlib.Core.List.{List}
@@ -25,8 +26,18 @@ Inv-loop table height n heights₀ i₀ heights i = Standing table height n heig
 abbrev μ-loop : tie.MeasureT-loop
 μ-loop table height n heights₀ i₀ heights i = n - i
 
+-- The ways back: from the test of an entry to the loop's head, from there to the beginning, and from its height to the test.
+abbrev tested : tie.After-entry-right Inv-loop μ-loop → tie.At-loop Inv-loop μ-loop
+tested c = c .before .before
+
+abbrev start : tie.At-loop Inv-loop μ-loop → tie.Start Inv-loop μ-loop
+start c = c .before .before .before
+
+abbrev passed : tie.After-height-below Inv-loop μ-loop → tie.Else1 Inv-loop μ-loop
+passed c = c .before .before
+
 -- entry i has passed the test
-ordered : (c : tie.Else1 Inv-loop μ-loop) → EntryRight (entries (c .before .before .before .before .before .before .args .table .now)) (c .before .before .before .loop .i)
+ordered : (c : tie.Else1 Inv-loop μ-loop) → EntryRight (entries (start (tested (c .before)) .args .table .now)) (tested (c .before) .loop .i)
 ordered c = test-passed (c .before .entry-right .result) (c .before .entry-right .ensures .exact) (c .if1 .left)
 
 count-requires : tie.Need-count-requires Inv-loop μ-loop
@@ -40,7 +51,7 @@ entry-right-requires c κs = search needs
 
 returns : tie.Need-returns Inv-loop μ-loop
 returns c limit same =
-    walk-malformed _ (c .before .before .before .loop .inv .walked) limit same (omega arith)
+    walk-malformed _ (tested (c .before) .loop .inv .walked) limit same (omega arith)
     (test-failed (c .before .entry-right .result) (c .before .entry-right .ensures .exact) (c .if1 .taken))
 
 slice-aggregate-height-below : tie.Need-slice-aggregate-height-below Inv-loop μ-loop
@@ -51,8 +62,8 @@ height-below-requires c κs = search needs
 
 returns-2 : tie.Need-returns-2 Inv-loop μ-loop
 returns-2 c limit same =
-    walk-high _ (c .before .before .before .before .before .before .loop .inv .walked) limit same (omega arith)
-    (ordered (c .before .before .before)) (c .before .height-below .ensures) (omega arith)
+    let entry = passed (c .before) in
+    walk-high _ (tested (entry .before) .loop .inv .walked) limit same (omega arith) (ordered entry) (c .before .height-below .ensures) (omega arith)
 
 add-heights : tie.Need-add-heights Inv-loop μ-loop
 add-heights c = search needs
@@ -71,12 +82,13 @@ loop-less c = search needs
 
 loop-again : tie.Need-loop-again Inv-loop μ-loop
 loop-again c =
-    let here = c .before .before .before .before .before .before .loop .inv in
+    let entry = passed (c .before) in
+    let here = tested (entry .before) .loop .inv in
     record {
       within = omega arith;
       counted = here .counted;
       room = simp length-set (here .room);
-      walked = walk-on (here .walked) (omega arith) (ordered (c .before .before .before)) (c .before .height-below .ensures) (omega arith) (omega arith);
+      walked = walk-on (here .walked) (omega arith) (ordered entry) (c .before .height-below .ensures) (omega arith) (omega arith);
     }
 
 returns-3 : tie.Need-returns-3 Inv-loop μ-loop

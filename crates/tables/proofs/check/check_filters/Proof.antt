@@ -1,4 +1,4 @@
--- `tables::check::check_filters` meets its contract: 7 for the length, and then what the walk over the entries says. Assumes nothing.
+-- `tables::check::check_filters`: 7 for the length, and then what the walk over the entries says. Assumes nothing.
 use native.Mathlib.Omega.{arith}
 use mathlib.Core.Path.{refl}
 use Rattle.reply.specs.Reply.{said}

@@ -1,4 +1,5 @@
--- `tables::check::check_query` meets its contract: 12 for the length, then what the walk over the entries refuses, then 12 for the last entry. Assumes nothing.
+-- `tables::check::check_query`: 12 for the length, then what the walk over the entries refuses, then 12 for the last
+-- entry. Assumes nothing.
 use native.Mathlib.Omega.{arith}
 use mathlib.Core.Path.{refl, sym, _∙_}
 use mathlib.Core.Logic.{_↔_}
@@ -62,8 +63,9 @@ returns-2 c =
 
 sub-last : tie.Need-sub-last
 sub-last c =
-    let w = c .before .before .before in
-    query-some (size (w .before)) (reply w) (walked w) (c .before .reply .given .0 .0) (c .before .reply .given .1)
+    let r = c .before in
+    let w = r .before .before in
+    query-some (size (w .before)) (reply w) (walked w) (r .reply .given .0 .0) (r .reply .given .1)
 
 sort-at-requires : tie.Need-sort-at-requires
 sort-at-requires c κs = search needs
@@ -72,13 +74,15 @@ returns-3 : tie.Need-returns-3
 returns-3 c =
     let r = c .before .before .before in
     let w = r .before .before in
-    query-path (size (w .before)) (reply w) (walked w) (r .reply .given .0 .0) (r .reply .given .1) (sym (c .before .sort-at .ensures) ∙ c .if2 .taken)
+    query-path (size (w .before)) (reply w) (walked w) (r .reply .given .0 .0) (r .reply .given .1)
+    (sym (c .before .sort-at .ensures) ∙ c .if2 .taken)
 
 returns-4 : tie.Need-returns-4
 returns-4 c =
     let r = c .before .before .before in
     let w = r .before .before in
-    query-no-path (size (w .before)) (reply w) (walked w) (r .reply .given .0 .0) (r .reply .given .1) (λ e. c .if2 .left (c .before .sort-at .ensures ∙ e))
+    query-no-path (size (w .before)) (reply w) (walked w) (r .reply .given .0 .0) (r .reply .given .1)
+    (λ e. c .if2 .left (c .before .sort-at .ensures ∙ e))
 
 pub check-query-spec : {M : Type 1} → statement M
 check-query-spec =

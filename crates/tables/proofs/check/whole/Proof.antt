@@ -1,4 +1,4 @@
--- `tables::check::whole` meets its contract. Assumes nothing.
+-- `tables::check::whole`: the length is a multiple of six, and there are not too many entries. Assumes nothing.
 use Rattle.tables.proofs.Deciding.{whole-test}
 use borrow.Author.Needs.{needs}
 use Rattle.tables.proofs.check.whole.Statement.{statement}

@@ -1,4 +1,4 @@
--- `tables::entry::count` meets its contract. Assumes nothing.
+-- `tables::entry::count`: a sixth of the bytes, as there are six for an entry. Assumes nothing.
 use mathlib.Core.Path.{sym}
 use Rattle.query.proofs.Tables.{entries-length}
 use Rattle.tables.proofs.entry.count.Statement.{statement}

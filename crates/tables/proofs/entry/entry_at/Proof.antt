@@ -1,4 +1,4 @@
--- `tables::entry::entry_at` meets its contract: the bytes read are those of the entry. Assumes nothing.
+-- `tables::entry::entry_at`: the bytes read are those of the entry. Assumes nothing.
 use Rattle.tables.proofs.Entries.{fields-read, fields-none}
 use borrow.Author.Needs.{needs}
 use Rattle.tables.proofs.entry.entry_at.Statement.{statement}
@@ -39,8 +39,10 @@ number-at-requires-2 c κs = search needs
 
 returns-2 : tie.Need-returns-2
 returns-2 c =
-    let a = c .before .before .before .before .before .before .before .before .args in
-    fields-read (a .table .now) (a .i) _ (search needs) (c .before .before .before .before .wide .ensures .0) (c .before .before .wide2 .ensures .0)
+    let label = c .before .before in
+    let kind = label .before .before in
+    let a = kind .before .before .before .before .args in
+    fields-read (a .table .now) (a .i) _ (search needs) (kind .wide .ensures .0) (label .wide2 .ensures .0)
     (c .before .number-at .ensures) (c .number-at2 .ensures)
 
 pub entry-at-spec : {M : Type 1} → statement M

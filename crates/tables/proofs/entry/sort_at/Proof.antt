@@ -1,4 +1,4 @@
--- `tables::entry::sort_at` meets its contract: the sort is that of the entry's kind. Assumes nothing.
+-- `tables::entry::sort_at`: the sort is that of the entry's kind. Assumes nothing.
 use Prim.Native.Nat.{ℕ}
 use mathlib.Core.Path.{ap, _∙_}
 use Rattle.query.specs.Kind.{rowOf}

@@ -1,4 +1,4 @@
--- `tables::height::height_below` meets its contract: an entry is one higher than the higher of its operands. Assumes nothing.
+-- `tables::height::height_below`: an entry is one higher than the higher of its operands. Assumes nothing.
 use Prim.Native.Nat.{ℕ, _+_}
 use mathlib.Core.Path.{ap, _∙_}
 use Rattle.tables.proofs.Heights.{height-read}

@@ -1,4 +1,4 @@
--- `tables::height::operand_height` meets its contract. Assumes nothing.
+-- `tables::height::operand_height`: an unused operand has the height 0, and a used one the height that was noted for it. Assumes nothing.
 use mathlib.Core.Path.{sym, _∙_}
 use lib.ListN.{List·getD-eq-default}
 use Rattle.tables.proofs.Heights.{height-unused, height-used}

@@ -1,4 +1,4 @@
--- `tables::kinds::row_of` meets its contract: the constant table is computed once from the list of kinds. Assumes nothing.
+-- `tables::kinds::row_of`: the constant table is computed once from the list of kinds. Assumes nothing.
 use borrow.Author.Needs.{needs}
 use Rattle.query.specs.Kind.{kinds, find}
 use Rattle.tables.proofs.KindTable.{valuesFrom, byteOf, table-right, no-kind}

@@ -1,4 +1,4 @@
--- `tables::kinds::shape_of` meets its contract: it takes the byte of the row apart. Assumes nothing.
+-- `tables::kinds::shape_of`: it takes the byte of the row apart. Assumes nothing.
 use borrow.Author.Needs.{needs}
 use Rattle.query.specs.Kind.{rowOf}
 use Rattle.tables.proofs.KindTable.{taken-apart}

@@ -1,4 +1,4 @@
--- `tables::kinds::sort_of` meets its contract: it takes the sort from the byte of the row. Assumes nothing.
+-- `tables::kinds::sort_of`: it takes the sort from the byte of the row. Assumes nothing.
 use borrow.Author.Needs.{needs}
 use Rattle.query.specs.Kind.{rowOf}
 use Rattle.tables.proofs.KindTable.{taken-apart}

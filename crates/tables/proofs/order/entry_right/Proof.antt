@@ -1,4 +1,4 @@
--- `tables::order::entry_right` meets its contract: it makes the tests of an entry's fields. Assumes nothing.
+-- `tables::order::entry_right`: it makes the tests of an entry's fields. Assumes nothing.
 use Rattle.query.specs.Table.{entries}
 use Rattle.tables.proofs.Deciding.{entry-test}
 use borrow.Author.Needs.{needs}
@@ -27,7 +27,8 @@ returns c =
     let start = read .before .before in
     let shape = shaped .shape-of .ensures in
     entry-test (entries (start .args .table .now)) (start .args .i) (read .entry-at .result) (read .entry-at .ensures)
-    (shape .sort) (shape .label) (c .before .before .label-right .ensures) (shape .left) (c .before .operand-right .ensures) (shape .right) (c .operand-right2 .ensures)
+    (shape .sort) (shape .label) (c .before .before .label-right .ensures)
+    (shape .left) (c .before .operand-right .ensures) (shape .right) (c .operand-right2 .ensures)
 
 pub entry-right-spec : {M : Type 1} → statement M
 entry-right-spec =

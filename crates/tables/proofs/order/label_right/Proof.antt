@@ -1,4 +1,4 @@
--- `tables::order::label_right` meets its contract. Assumes nothing.
+-- `tables::order::label_right`: an unused label is 0, and a used one is a label. Assumes nothing.
 use borrow.Author.Needs.{needs}
 use Rattle.tables.proofs.Deciding.{label-used, label-unused}
 use Rattle.tables.proofs.order.label_right.Statement.{statement}

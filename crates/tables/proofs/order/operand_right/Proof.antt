@@ -1,4 +1,4 @@
--- `tables::order::operand_right` meets its contract. Assumes nothing.
+-- `tables::order::operand_right`: an unused operand is 0, and a used one is an earlier entry of its sort. Assumes nothing.
 use Rattle.query.specs.Table.{entries}
 use Rattle.tables.proofs.Deciding.{operand-unused, operand-used}
 use borrow.Author.Needs.{needs}

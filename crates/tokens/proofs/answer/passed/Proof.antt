@@ -1,4 +1,4 @@
--- `passed` meets its contract: an answer made of what was taken from it is that answer. Assumes nothing.
+-- `passed`: an answer made of what was taken from it is that answer. Assumes nothing.
 use mathlib.Core.Path.{sym}
 use borrow.Author.Needs.{needs}
 use Rattle.tokens.proofs.answer.passed.Statement.{statement}

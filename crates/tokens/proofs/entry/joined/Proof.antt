@@ -1,4 +1,4 @@
--- `joined` meets its contract. Assumes nothing.
+-- `joined`: where the first link has entries, one more entry joins the two; else the second link stands alone. Assumes nothing.
 use Prim.Native.Nat.{_+_, _*_, _≤_}
 use lib.ListN.{length}
 use native.Mathlib.Omega.{arith}
@@ -24,7 +24,10 @@ put-requires : tie.Need-put-requires
 put-requires c κs = room (c .before .before)
 
 add-result : tie.Need-add-result
-add-result c = let r = room (c .before .before .before .before .before) in omega arith
+add-result c =
+    let chosen = c .before .before .before in
+    let r = room (chosen .before .before) in
+    omega arith
 
 same-length : tie.Need-same-length
 same-length c = search needs

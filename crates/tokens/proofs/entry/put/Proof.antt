@@ -1,4 +1,4 @@
--- `put` meets its contract: its six stores are an entry's bytes. Assumes nothing.
+-- `put`: its six stores are an entry's bytes. Assumes nothing.
 use borrow.Author.Needs.{needs}
 use native.Mathlib.Omega.{arith}
 use lib.ListN.{length-set}

@@ -1,4 +1,4 @@
--- `axis` meets its contract. Assumes nothing.
+-- `axis`: each case is one of the five bytes, and the rest is none of them. Assumes nothing.
 use Rattle.tokens.specs.Reading.{dot, letter-v, caret, greater, less, no-axis}
 use Rattle.tokens.proofs.Places.{none-of, nor}
 use Rattle.tokens.proofs.kind.axis.Statement.{statement}

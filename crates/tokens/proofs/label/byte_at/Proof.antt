@@ -1,4 +1,4 @@
--- `byte_at` meets its contract. Assumes nothing.
+-- `byte_at`: the byte is read in the text, and behind its end the default is 0. Assumes nothing.
 use mathlib.Core.Path.{sym}
 use borrow.Author.Needs.{needs}
 use Rattle.tokens.proofs.Places.{behind-end}

@@ -1,4 +1,4 @@
--- `digit` meets its contract. Assumes nothing.
+-- `digit`: a byte below 0 or above 9 is none, and any other is 48 more than its value. Assumes nothing.
 use Prim.Native.Nat.{_-_}
 use native.Mathlib.Omega.{arith}
 use Rattle.tokens.specs.Label.{digit, too-low, too-high}

@@ -1,4 +1,4 @@
--- `past_nots` meets its contract: each turn passes one more `!`. Assumes nothing.
+-- `past_nots`: each turn passes one more `!`, which is a byte of the text. Assumes nothing.
 use Prim.Native.Nat.{ℕ, _-_, _≤_, _<_}
 use mathlib.Core.Path.{_≡_, sym, _∙_}
 use lib.ListN.{length, getD}
