@@ -1,4 +1,4 @@
--- The checks say one thing: of an annotation, and of the inputs of calls 3 to 6 in turn. Assumes nothing.
+-- The checks say one thing of the inputs of calls 3 to 6 in turn. Assumes nothing.
 use Prim.Native.Nat.{ℕ, _≤_}
 use native.Mathlib.Omega.{arith}
 use mathlib.Core.Path.{_≡_, refl}
@@ -6,17 +6,12 @@ use Rattle.reply.specs.Reply.{Said}
 use Rattle.reply.specs.Bytes.{Bytes}
 use Rattle.reply.proofs.Unique.{Wrong, OneFault, checked-one, in-turn-wrong, in-turn-one}
 use Rattle.roll.proofs.Unique.{roll-wrong, roll-one}
-use Rattle.query.specs.Table.{entries}
 use Rattle.query.specs.Fault.{curators, answered}
 use Rattle.query.proofs.Unique.{query-wrong, query-one}
-use Rattle.view.proofs.Unique.{annotation-wrong, annotation-one, annotated-wrong, annotated-one}
-use Rattle.checks.specs.Checks.{AnnotationChecked}
+use Rattle.view.proofs.Unique.{annotated-wrong, annotated-one}
 use Rattle.checks.specs.Ready.{Short, short, Ready, ReadyToAnswer, ReadyToCut, ReadyToRewrite, ReadyForCurator}
 
-pub annotation-checked-one : (annotation filters : Bytes) {s u : Said} → AnnotationChecked annotation filters s → AnnotationChecked annotation filters u → s ≡ u
-annotation-checked-one annotation filters = checked-one (annotation-wrong (entries filters) annotation) (annotation-one (entries filters) annotation)
-
--- so do the checks before a call's work: a room is not both long enough and too short, and its fault is one
+-- the checks before a call's work say one thing: a room is not both long enough and too short, and its fault is one
 ready-one : {room given size : ℕ} {Right : Type 0} {Fault : ℕ → ℕ → Type 0} → Wrong Right Fault → OneFault Fault
     → {s u : Said} → Ready room given Right Fault size s → Ready room given Right Fault size u → s ≡ u
 ready-one {room} {given} wrong one = checked-one (in-turn-wrong room-wrong wrong) (in-turn-one room-wrong room-one one)
@@ -30,7 +25,9 @@ ready-one {room} {given} wrong one = checked-one (in-turn-wrong room-wrong wrong
 module _ (given : ℕ) (roll annotation filters query : Bytes) {s u : Said} where
   pub answer-one : ReadyToAnswer given roll query s → ReadyToAnswer given roll query u → s ≡ u
   unfolding ReadyToAnswer
-  answer-one = ready-one (in-turn-wrong (roll-wrong roll) (query-wrong answered query)) (in-turn-one (roll-wrong roll) (roll-one roll) (query-one answered query))
+  answer-one =
+      ready-one (in-turn-wrong (roll-wrong roll) (query-wrong answered query))
+      (in-turn-one (roll-wrong roll) (roll-one roll) (query-one answered query))
 
   pub cut-one : ReadyToCut given roll annotation filters s → ReadyToCut given roll annotation filters u → s ≡ u
   unfolding ReadyToCut

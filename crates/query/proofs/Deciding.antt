@@ -12,7 +12,7 @@ use Rattle.query.specs.Syntax.{Path, self, child, parent, next, previous
 use Rattle.query.specs.Syntax.{Filter, labelled, leads, always, never, not, and, or}
 use Rattle.query.specs.Meaning.{reach, holds}
 use Rattle.query.proofs.Inside.{reach-inside}
-use Rattle.tree.proofs.Tests.{Decides, passes, less-test, equal-test, and-test, or-test, not-test, same-test, decided}
+use Rattle.tree.proofs.Tests.{Decides, passes, less-test, equal-test, and-test, or-test, not-test, same-test}
 use Rattle.query.proofs.Sets.{has, single, union, keep, any, some, some-test}
 use Rattle.query.proofs.Steps.{Steps, from-node, from-node-any, follow, self-steps, follow-steps, keep-steps, then-steps, either-steps}
 use Rattle.query.proofs.Rounds.{grow, star-steps}
@@ -110,10 +110,6 @@ module _ (t : Tree) (o : InOrder t) where
     filter-test (and f g) i h = and-test (filter-test f i h) (filter-test g i h)
     filter-test (or f g) i h = or-test (filter-test f i h) (filter-test g i h)
 
-  -- an image is a set of nodes
-  pub image-length : (p : Path) (s : List Bool) → length s ≡ length t → length (image t p s) ≡ length t
-  image-length p = image-steps p .nodes
-
   -- an image is what the path reaches from the set
   pub image-right : (p : Path) (s : List Bool) → length s ≡ length t → (j : ℕ)
       → T (has (image t p s) j) ↔ ((i : ℕ) × T (has s i) × reach t p i j)
@@ -126,10 +122,3 @@ module _ (t : Tree) (o : InOrder t) where
   -- the test passes where the filter holds
   pub test-right : (f : Filter) (i : ℕ) → i < length t → T (test t f i) ↔ holds t f i
   test-right f i l = filter-test f i l .exact
-
-  -- at a node every filter is decided, and from a node every path
-  pub dec-holds : (f : Filter) (i : ℕ) → i < length t → Dec (holds t f i)
-  dec-holds f i l = decided (filter-test f i l)
-
-  pub dec-reach : (p : Path) (i j : ℕ) → i < length t → Dec (reach t p i j)
-  dec-reach p i j l = decided (image-node p i l j)

@@ -4,4 +4,3 @@ pub mod Deciding
 pub mod Heights
 pub mod Walk
 pub mod Outcomes
-pub mod Unique

@@ -124,23 +124,3 @@ module _ (t : Tree) (o : InOrder t) where
   no-gap {k} {m} {j} l b h a =
       le-ind (λ (i : ℕ). i < length t → Above t k i → Above t k m) (λ u x. x)
       (λ i g step u x. step (omega arith) (above-before u (omega arith) x)) j h l a
-
-  -- below n, whether p is above i: it is i, or above the parent of i
-  dec-upto : (n p i : ℕ) → i < n → i < length t → Dec (Above t p i)
-  dec-upto zero p i b l = absurd (omega arith)
-  dec-upto (suc n) p i b l =
-      elim (ℕ-discrete p i) [
-        | yes e ↦ yes (rw e here)
-        | no h ↦
-            elim (decLt 0 i) [
-              | no z ↦ no (λ a. z (above-parent l a h .1 .later))
-              | yes z ↦
-                  let s = parent-smaller i z l in
-                  map-dec (λ a. up z a) (λ a. let (q, c, x) = above-parent l a h in rw (c .parent) x)
-                  (dec-upto n p (parentAt t i) (omega arith) (omega arith))
-            ]
-      ]
-
-  -- whether p is above i
-  pub dec-above : (p i : ℕ) → i < length t → Dec (Above t p i)
-  dec-above p i l = dec-upto (suc i) p i (le-refl (suc i)) l

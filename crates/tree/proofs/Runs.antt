@@ -164,13 +164,6 @@ module _ (t : Tree) (o : InOrder t) where
         | no e ↦ let x = in-run (omega arith) b h (omega arith) in inr (x, above-end l x)
       ]
 
-  -- the run of the root is the whole tree
-  pub root-end : 0 < length t → end t 0 ≡ length t
-  root-end l =
-      let b = end-behind 0 l in
-      let h = behind-run (pred (length t)) (omega arith) (root-above t o (pred (length t)) (omega arith)) in
-      omega arith
-
   -- a proper ancestor of a child is above its parent
   pub above-child : {a p k : ℕ} → Child t p k → Above t a k → ¬ (a ≡ k) → Above t a p
   above-child c x n =

@@ -2,11 +2,11 @@
 -- Assumes nothing.
 use Prim.Native.Nat.{ℕ, zero, suc, _≤_, _<_}
 use native.Mathlib.Nat.{le-refl, le-antisymm, eq-or-lt-of-le, le-of-suc-le-suc}
-use native.Mathlib.Decide.{decLe, ℕ-discrete, map-dec}
+use native.Mathlib.Decide.{decLe}
 use native.Mathlib.Omega.{arith}
 use mathlib.Core.Path.{_≡_, sym, _∙_}
 use mathlib.Core.Logic.{_⊎_, inl, inr, ⊎-map}
-use Rattle.tree.specs.Tree.{Tree, parentAt, Child, Next}
+use Rattle.tree.specs.Tree.{Tree, Child, Next}
 use Rattle.tree.proofs.Order.{dec-child}
 
 module _ (t : Tree) where
@@ -73,21 +73,4 @@ module _ (t : Tree) where
         | inl x ↦
             inl (x .0, record { above = p; left = x .1; right = c; order = x .2; between = x .3 })
         | inr f ↦ inr (λ i l. f i (omega arith) l)
-      ]
-
-  -- the previous sibling of j, or that there is none
-  pub previous-or-none : (j : ℕ) → ((i : ℕ) × Next t i j) ⊎ ((i : ℕ) → ¬ Next t i j)
-  previous-or-none j =
-      elim (dec-child t (parentAt t j) j) [
-        | no h ↦ inr (λ i n. h (rw (n .right .parent) (n .right)))
-        | yes c ↦
-            ⊎-map (λ x. x) (λ f i n. f i (n .order) (rw (n .right .parent) (n .left))) (previous-or-first c)
-      ]
-
-  -- whether j is the next sibling of i
-  pub dec-next : (i j : ℕ) → Dec (Next t i j)
-  dec-next i j =
-      elim (previous-or-none j) [
-        | inl x ↦ map-dec (λ e. rw e at (x .1)) (λ n. previous-unique (x .1) n) (ℕ-discrete (x .0) i)
-        | inr f ↦ no (λ n. f i n)
       ]
