@@ -1,4 +1,5 @@
--- Annotation records: their fields stand where those of a query entry do, and which tests decide whether a record is right. Assumes nothing.
+-- Annotation records: their fields stand where those of a query entry do, and which tests decide whether a record is right. Assumes
+-- nothing.
 use Prim.Native.Nat.{ℕ, zero, suc, _-_, _≤_, _<_}
 use native.Mathlib.Omega.{arith}
 use mathlib.Core.Path.{_≡_, refl, sym, _∙_}

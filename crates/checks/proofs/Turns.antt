@@ -10,12 +10,13 @@ use Rattle.reply.specs.Bytes.{Bytes}
 use Rattle.reply.specs.Outcome.{InTurn, first, behind, Outcome, short, turned-away, Checked}
 use Rattle.reply.proofs.Checking.{fails, counted, faulted, right-of, passed-up, checked-as}
 use Rattle.checks.specs.Ready as ready
-use Rattle.checks.specs.Ready.{inTurn, Short, Ready}
+use Rattle.checks.specs.Ready.{inTurn, SaidInTurn, Short, Ready}
 
 -- Two checks in turn: the first refuses, or it passes and the rest refuses, or both pass and the count is that of one of them.
 module _ {First Both : Type 0} {F G : ℕ → ℕ → Type 0} where
   -- a refusal of the first input is the refusal of both
-  pub first-refused : {m size : ℕ} {r : Reply} {x : Refusal} → r ≡ Refused x → Checked First F m (said r) → Checked Both (InTurn First F G) size (said r)
+  pub first-refused : {m size : ℕ} {r : Reply} {x : Refusal} → r ≡ Refused x → Checked First F m (said r)
+      → Checked Both (InTurn First F G) size (said r)
   first-refused e h = passed-up (λ n p. first) e h
 
   -- where the rest is right, what the first check says is said of both
@@ -24,7 +25,8 @@ module _ {First Both : Type 0} {F G : ℕ → ℕ → Type 0} where
 
   module _ {Rest : Type 0} (right : First) where
     -- where the first input is right, a refusal of the rest is the refusal of both
-    rest-refused : {m size : ℕ} {r : Reply} {x : Refusal} → r ≡ Refused x → Checked Rest G m (said r) → Checked Both (InTurn First F G) size (said r)
+    rest-refused : {m size : ℕ} {r : Reply} {x : Refusal} → r ≡ Refused x → Checked Rest G m (said r)
+        → Checked Both (InTurn First F G) size (said r)
     rest-refused e h = passed-up (λ n p. behind right) e h
 
     -- where the first input is right, what the check of the rest says is said of both
@@ -52,15 +54,17 @@ module _ {room given : ℕ} {Right : Type 0} {Fault : ℕ → ℕ → Type 0} {s
   ready-counted e h = let (right, same) = counted (rw e at h) in (right .0, right .1, same)
 
 -- where there is room, two replies in turn are all that is left
-pub both-ready : {room given : ℕ} {First Rest : Type 0} {F G : ℕ → ℕ → Type 0} {size m : ℕ} {r : Reply} (u v : Reply) → room ≤ given
-    → Checked First F size (said u) → Checked Rest G m (said v) → r ≡ inTurn u v → Ready room given (First × Rest) (InTurn First F G) size (said r)
-both-ready u v fits h k e = rw e (checked-ready fits (both-checked u v h k))
+pub both-ready : {room given : ℕ} {First Rest : Type 0} {F G : ℕ → ℕ → Type 0} {size m : ℕ} {u v r : Reply} → room ≤ given
+    → Checked First F size (said u) → Checked Rest G m (said v) → SaidInTurn u v r
+    → Ready room given (First × Rest) (InTurn First F G) size (said r)
+both-ready {u = u} {v = v} fits h k e = rw (e .same) (checked-ready fits (both-checked u v h k))
 
 -- what is refused is how the call comes out, whatever its work would be
-pub ready-passed-up : {room : ℕ} {Right : Type 0} {Fault : ℕ → ℕ → Type 0} {size : ℕ} {Done : ℕ → Bytes → Type 0} {before : Bytes} {r : Reply} {x : Refusal}
-    → r ≡ Refused x → Ready room (length before) Right Fault size (said r) → Outcome room Right Fault Done before (said r) before
+pub ready-passed-up : {room : ℕ} {Right : Type 0} {Fault : ℕ → ℕ → Type 0} {size : ℕ} {Done : ℕ → Bytes → Type 0} {before : Bytes}
+    {r : Reply} {x : Refusal} → r ≡ Refused x → Ready room (length before) Right Fault size (said r) → Outcome room Right Fault Done before (said r) before
 ready-passed-up {room} {Right} {Fault} {Done = Done} {before = before} e h = rw e (go (faulted (rw e at h)))
   where
-    go : {n p : ℕ} → InTurn (room ≤ length before) (Short room (length before)) Fault n p → Outcome room Right Fault Done before (refused n p) before
+    go : {n p : ℕ} → InTurn (room ≤ length before) (Short room (length before)) Fault n p
+        → Outcome room Right Fault Done before (refused n p) before
     go (first (ready.short less)) = short less
     go (behind fits fault) = turned-away fits fault

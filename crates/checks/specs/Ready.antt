@@ -1,5 +1,6 @@
 -- The checks of a call that takes several inputs, in 01's "Order": the room, then each input in turn.
 use Prim.Native.Nat.{ℕ, _≤_, _<_}
+use mathlib.Core.Path.{_≡_}
 use lib.ListN.{length}
 use Rattle.reply.specs.declared.Reply.{Reply}
 use Rattle.reply.specs.declared.Reply.the-variants.{Count, Refused}
@@ -17,11 +18,16 @@ inTurn (Refused x) rest = Refused x
 inTurn (Count c) (Refused x) = Refused x
 inTurn (Count c) (Count d) = Count c
 
+-- r is what is said of the two
+pub record SaidInTurn (first rest r : Reply) : Type 0 where
+  pub same : r ≡ inTurn first rest
+
 -- 1, "the output is shorter than the room named": a call must be lent `room` bytes, and is lent `given`.
 pub data Short (room given : ℕ) : ℕ → ℕ → Type 0 where
   short : given < room → Short room given 1 0
 
--- What the checks say before a call does its work: the room comes first, as an input in turn. `size`: what is counted where all is in order.
+-- What the checks say before a call does its work: the room comes first, as an input in turn. `size`: what is counted where all is in
+-- order.
 abbrev pub Ready : ℕ → ℕ → Type 0 → (ℕ → ℕ → Type 0) → ℕ → Said → Type 0
 Ready room given Right Fault size said = Checked ((room ≤ given) × Right) (InTurn (room ≤ given) (Short room given) Fault) size said
 

@@ -11,10 +11,9 @@ use tables::limits::ANSWER_ENTRIES;
 use tables::limits::ANSWER_HEIGHT;
 use tables::limits::CURATOR_ENTRIES;
 use tables::limits::CURATOR_HEIGHT;
-ghost use mathlib.Core.Path.{_≡_};
 ghost use Rattle.reply.specs.Reply.{said};
 ghost use Rattle.checks.specs.Checks.{AnnotatedChecked, AskedChecked};
-ghost use Rattle.checks.specs.Ready.{inTurn, ReadyToAnswer, ReadyToCut, ReadyToRewrite, ReadyForCurator};
+ghost use Rattle.checks.specs.Ready.{SaidInTurn, ReadyToAnswer, ReadyToCut, ReadyToRewrite, ReadyForCurator};
 
 // "a bitmap of record numbers; room 512 bytes", and the same for view positions
 const BITMAP: usize = 512;
@@ -46,7 +45,7 @@ fn check_asked(annotation: &[u8], filters: &[u8], query: &[u8]) -> Reply
 
 // What is said of two inputs in turn: the first refusal, or where there is none the count of the first.
 fn in_turn(first: Reply, rest: Reply) -> Reply
-    ensures { λ r. ⌜ r ≡ inTurn first rest ⌝ }
+    ensures { λ r. ⌜ SaidInTurn first rest r ⌝ }
 {
     let Reply::Count(_) = first else {
         return first;

@@ -19,7 +19,7 @@ use Rattle.tables.specs.Shape.{operandNumber, OfOperand, sortOf, leftOf,
 use Rattle.tables.proofs.Entries.{row-read, operand-read, sort-some, sort-at}
 
 -- a test of an order
-pub at-most-test : (m n : ℕ) → Decides (leb m n) (m ≤ n)
+at-most-test : (m n : ℕ) → Decides (leb m n) (m ≤ n)
 at-most-test m n = record { exact = (leb→le m n, le→leb m n) }
 
 -- whole records within a limit, by the length
@@ -29,14 +29,16 @@ whole-test limit b =
     (λ p. record { multiple = p .0; most = p .1 }, λ (h : Whole 6 limit b). (h .multiple, h .most))
 
 -- the length of a query table: some entries, whole, within the limit
-pub length-test : {w : Bool} (limit : Limits) (b : Bytes) → Decides w (Whole 6 (limit .entries) b) → Decides (ltb 0 (length b) && w) (QueryLength limit b)
+pub length-test : {w : Bool} (limit : Limits) (b : Bytes) → Decides w (Whole 6 (limit .entries) b)
+    → Decides (ltb 0 (length b) && w) (QueryLength limit b)
 length-test limit b test =
-    same-test (and-test (less-test 0 (length b)) test) (λ p. record { some = p .0; size = p .1 }, λ (h : QueryLength limit b). (h .some, h .size))
+    same-test (and-test (less-test 0 (length b)) test)
+    (λ p. record { some = p .0; size = p .1 }, λ (h : QueryLength limit b). (h .some, h .size))
 
 -- a label that is used is one of 1 to 64
-pub label-used : {b : Bool} (l : ℕ) → T b ↔ Label l → Decides b (LabelField true l)
+pub label-used : (b : Bool) (l : ℕ) → T b ↔ Label l → T b ↔ LabelField true l
 unfolding LabelField
-label-used l test = record { exact = test }
+label-used b l test = test
 
 -- a label that is not used is 0
 pub label-unused : (l : ℕ) → Decides (eqb l 0) (LabelField false l)
@@ -51,18 +53,27 @@ module _ (es : Entries) (i : ℕ) where
   operand-unused (of s) x sort e z = absurd (omega (arith, sort-some s))
 
   -- an operand that is used is the number of an earlier entry of its sort
-  pub operand-used : (o : Operand) (x sort : ℕ) → operandNumber o ≡ sort → ¬ (sort ≡ 0) → Decides (ltb x i && eqb (sortOf (rowAt es x)) sort) (OperandField es i o x)
+  pub operand-used : (o : Operand) (x sort : ℕ) → operandNumber o ≡ sort → ¬ (sort ≡ 0)
+      → Decides (ltb x i && eqb (sortOf (rowAt es x)) sort) (OperandField es i o x)
   unfolding OperandField
   operand-used unused x sort e z = absurd (z (sym e))
-  operand-used (of s) x sort e z = rw (← e) (and-test (less-test x i) (same-test (equal-test (sortOf (rowAt es x)) (operandNumber (of s))) (sort-at es x s)))
+  operand-used (of s) x sort e z =
+      rw (← e) (and-test (less-test x i) (same-test (equal-test (sortOf (rowAt es x)) (operandNumber (of s))) (sort-at es x s)))
+
+  -- the test of an operand, whatever it is
+  pub operand-tested : (b : Bool) (x sort : ℕ) → OfOperand (λ o. T b ↔ OperandField es i o x) sort
+      → OfOperand (λ o. Decides b (OperandField es i o x)) sort
+  operand-tested b x sort test o e = record { exact = test o e }
 
   -- an entry is in order where its kind is listed and its fields are right
-  by-row : {a b c d : Bool} (row : Option Row) → rowAt es i ≡ row → Decides a (¬ (sortOf row ≡ 0)) → Decides b (LabelField (labelOf row) (entryAt es i .label))
+  by-row : {a b c d : Bool} (row : Option Row) → rowAt es i ≡ row → Decides a (¬ (sortOf row ≡ 0))
+      → Decides b (LabelField (labelOf row) (entryAt es i .label))
       → OfOperand (λ o. Decides c (OperandField es i o (entryAt es i .left))) (leftOf row)
       → OfOperand (λ o. Decides d (OperandField es i o (entryAt es i .right))) (rightOf row)
       → Decides (((a && b) && c) && d) (EntryRight es i)
   by-row none e listed label left right =
-      same-test (and-test (and-test (and-test listed label) (left unused refl)) (right unused refl)) (λ p. absurd (p .0 .0 .0 refl), λ (h : EntryRight es i). absurd (unlisted h))
+      same-test (and-test (and-test (and-test listed label) (left unused refl)) (right unused refl))
+      (λ p. absurd (p .0 .0 .0 refl), λ (h : EntryRight es i). absurd (unlisted h))
     where
       unlisted : EntryRight es i → ⊥
       unlisted h = let z : _≡_ {A = ℕ} 0 1 = cc (e, h .listed) in omega arith

@@ -18,7 +18,8 @@ use Rattle.tables.specs.Shape.{sortNumber, OfOperand, sortOf}
 module _ (b : Bytes) (i : ℕ) where
   -- the six bytes from 6 i on are entry i
   pub fields-read : (read : Entry) → i < length b / 6 → read .kind ≡ getD b (6 * i) 0 → read .label ≡ getD b (6 * i + 1) 0
-      → read .left ≡ two (getD b (6 * i + 2) 0) (getD b (6 * i + 2 + 1) 0) → read .right ≡ two (getD b (6 * i + 4) 0) (getD b (6 * i + 4 + 1) 0)
+      → read .left ≡ two (getD b (6 * i + 2) 0) (getD b (6 * i + 2 + 1) 0)
+      → read .right ≡ two (getD b (6 * i + 4) 0) (getD b (6 * i + 4 + 1) 0)
       → Fields (entryAt (entries b) i) read
   unfolding entryFrom
   fields-read read l kind label left right =

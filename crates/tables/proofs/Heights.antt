@@ -36,12 +36,14 @@ module _ (heights : List ℕ) where
   listed-height e row same = rw (same, height) refl
 
   -- the height of any entry, listed or not
-  by-row : {l r : ℕ} (e : table.Entry) (row : Option Row) → rowOf (e .kind) ≡ row → OfOperand (λ o. l ≡ operandHeight heights o (e .left)) (leftOf row)
+  by-row : {l r : ℕ} (e : table.Entry) (row : Option Row) → rowOf (e .kind) ≡ row
+      → OfOperand (λ o. l ≡ operandHeight heights o (e .left)) (leftOf row)
       → OfOperand (λ o. r ≡ operandHeight heights o (e .right)) (rightOf row)
       → suc (max l r) ≡ height heights e
   unfolding height operandHeight
   by-row e none same left right = rw (same, height) (ap₂ (λ (m n : ℕ). suc (max m n)) (left unused refl) (right unused refl))
-  by-row e (some row) same left right = ap₂ (λ (m n : ℕ). suc (max m n)) (left (row .left) refl) (right (row .right) refl) ∙ listed-height e row same
+  by-row e (some row) same left right =
+      ap₂ (λ (m n : ℕ). suc (max m n)) (left (row .left) refl) (right (row .right) refl) ∙ listed-height e row same
 
   -- an entry is one higher than the higher of its operands
   pub height-read : {left right l r : ℕ} {e : table.Entry} (read : Entry) → Fields e read
@@ -56,7 +58,8 @@ module _ (heights : List ℕ) where
 
 module _ (es : Entries) (i : ℕ) (heights : List ℕ) (known : (k : ℕ) → k < i → getD heights k 0 ≡ heightAt es k) where
   -- an operand in order is as high among the first i heights as among those known
-  operand-known : (o : Operand) (x : ℕ) → OperandField es i o x → operandHeight (take i (readOn height [] es)) o x ≡ operandHeight heights o x
+  operand-known : (o : Operand) (x : ℕ) → OperandField es i o x
+      → operandHeight (take i (readOn height [] es)) o x ≡ operandHeight heights o x
   unfolding OperandField operandHeight heightAt
   operand-known unused x right = refl
   operand-known (of s) x right = getD-take i (readOn height [] es) x 0 (right .0) ∙ sym (known x (right .0))
@@ -69,5 +72,6 @@ module _ (es : Entries) (i : ℕ) (heights : List ℕ) (known : (k : ℕ) → k 
       let front : List ℕ = take i (readOn height [] es) in
       read-at height es i 0 (record { kind = 0; label = 0; left = 0; right = 0 }) l
       ∙ sym (listed-height front e (right .row) (right .listed))
-      ∙ ap₂ (λ (m n : ℕ). suc (max m n)) (operand-known (right .row .left) (e .left) (right .left)) (operand-known (right .row .right) (e .right) (right .right))
+      ∙ ap₂ (λ (m n : ℕ). suc (max m n)) (operand-known (right .row .left) (e .left) (right .left))
+      (operand-known (right .row .right) (e .right) (right .right))
       ∙ listed-height heights e (right .row) (right .listed)

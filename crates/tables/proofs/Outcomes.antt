@@ -1,7 +1,7 @@
 -- What the walk over the entries means for a query table and for a filter table. Assumes nothing.
 use Prim.Native.Nat.{ℕ, _-_, _≤_, _<_}
 use native.Mathlib.Omega.{arith}
-use mathlib.Core.Path.{_≡_, sym, ap, subst}
+use mathlib.Core.Path.{_≡_, ap, subst}
 use mathlib.Core.Logic.{_↔_}
 use lib.ListN.{length}
 use Rattle.reply.specs.declared.Refusal.{Refusal}
@@ -29,12 +29,12 @@ query-length wrong = fails (QueryFault.bad-length wrong)
 module _ {limit : Limits} {b : Bytes} (size : QueryLength limit b) (reply : Reply) (walked : EntriesChecked limit b (said reply)) where
   -- 8, 9: what the walk refuses
   pub query-entry : (r : Refusal) → reply ≡ Refused r → QueryChecked limit b (said reply)
-  query-entry r e = rw e (fails (QueryFault.bad-entry size (faulted (subst (λ (x : Reply). EntriesChecked limit b (said x)) e walked))))
+  query-entry r e = rw e (fails (QueryFault.bad-entry size (faulted (rw e at walked))))
 
   module _ (n : ℕ) (e : reply ≡ Count n) where
     -- every entry fits, and the count is the number of entries
     all-fit : ((i : ℕ) → i < length (entries b) → EntryFits limit b i) × (n ≡ length (entries b))
-    all-fit = counted (subst (λ (x : Reply). EntriesChecked limit b (said x)) e walked)
+    all-fit = counted (rw e at walked)
 
     -- a query has a last entry
     pub query-some : 1 ≤ n
@@ -47,7 +47,8 @@ module _ {limit : Limits} {b : Bytes} (size : QueryLength limit b) (reply : Repl
 
     -- the number of the last entry's sort says whether it is a path
     last-path : (sortOf (rowAt (entries b) (n - 1)) ≡ 1) ↔ HasSort (entries b) (last limit b) path
-    last-path = subst (λ (k : ℕ). (sortOf (rowAt (entries b) (n - 1)) ≡ 1) ↔ HasSort (entries b) k path) here (sort-at (entries b) (n - 1) path)
+    last-path =
+        subst (λ (k : ℕ). (sortOf (rowAt (entries b) (n - 1)) ≡ 1) ↔ HasSort (entries b) k path) here (sort-at (entries b) (n - 1) path)
 
     -- the last entry is a path
     pub query-path : sortOf (rowAt (entries b) (n - 1)) ≡ 1 → QueryChecked limit b (count n)
@@ -56,7 +57,7 @@ module _ {limit : Limits} {b : Bytes} (size : QueryLength limit b) (reply : Repl
     -- 12: the last entry is no path
     pub query-no-path : ¬ (sortOf (rowAt (entries b) (n - 1)) ≡ 1) → QueryChecked limit b (refused 12 (n - 1))
     query-no-path sort =
-        subst (λ (k : ℕ). QueryChecked limit b (refused 12 k)) (sym here) (fails (no-path size (all-fit .0) (λ h. sort (last-path .1 h))))
+        rw here (fails (no-path size (all-fit .0) (λ h. sort (last-path .1 h))))
 
 -- 7: the length is wrong
 pub filter-length : {b : Bytes} → ¬ Whole 6 (filters .entries) b → FilterChecked b (refused 7 0)

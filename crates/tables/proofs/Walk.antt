@@ -24,13 +24,15 @@ pub record Walked (es : Entries) (most : ℕ) (heights : List ℕ) (i : ℕ) : T
 pub walk-starts : (es : Entries) (most : ℕ) (heights : List ℕ) → Walked es most heights 0
 walk-starts es most heights = record { right = below-none _; low = below-none _; known = below-none _ }
 
-module _ {es : Entries} {most : ℕ} {heights : List ℕ} {i : ℕ} (walked : Walked es most heights i) (within : i < length es) (right : EntryRight es i) where
+module _ {es : Entries} {most : ℕ} {heights : List ℕ} {i : ℕ} (walked : Walked es most heights i) (within : i < length es)
+    (right : EntryRight es i) where
   -- the height of the entry that the walk has come to
   pub height-here : (below : ℕ) → below + 1 ≡ height heights (entryAt es i) → heightAt es i ≡ below + 1
   height-here below found = height-known es i heights (walked .known) within right ∙ sym found
 
   -- an entry in order that is not too high is walked over
-  pub walk-on : {below : ℕ} → below + 1 ≡ height heights (entryAt es i) → below < most → i < length heights → Walked es most (set heights i (below + 1)) (i + 1)
+  pub walk-on : {below : ℕ} → below + 1 ≡ height heights (entryAt es i) → below < most → i < length heights
+      → Walked es most (set heights i (below + 1)) (i + 1)
   walk-on {below} found low room =
       record {
         right = below-more (λ k. EntryRight es k) i (walked .right) right;
@@ -41,7 +43,8 @@ module _ {es : Entries} {most : ℕ} {heights : List ℕ} {i : ℕ} (walked : Wa
             (getD-set-same heights i (below + 1) 0 room ∙ sym (height-here below found));
       }
 
-module _ (b : Bytes) {most : ℕ} {heights : List ℕ} {i : ℕ} (walked : Walked (entries b) most heights i) (limit : Limits) (same : limit .height ≡ most) where
+module _ (b : Bytes) {most : ℕ} {heights : List ℕ} {i : ℕ} (walked : Walked (entries b) most heights i) (limit : Limits)
+    (same : limit .height ≡ most) where
   fits : (k : ℕ) → k < i → EntryFits limit b k
   fits k l = record { right = walked .right k l; low = omega (arith, walked .low k l) }
 
@@ -54,6 +57,11 @@ module _ (b : Bytes) {most : ℕ} {heights : List ℕ} {i : ℕ} (walked : Walke
   walk-malformed within wrong = fails (record { within = within; faulty = malformed wrong; lowest = fits })
 
   -- 9: an entry in order is too high
-  pub walk-high : {below : ℕ} → i < length (entries b) → EntryRight (entries b) i → below + 1 ≡ height heights (entryAt (entries b) i) → most ≤ below → EntriesChecked limit b (refused 9 i)
+  pub walk-high : {below : ℕ} → i < length (entries b) → EntryRight (entries b) i → below + 1 ≡ height heights (entryAt (entries b) i)
+      → most ≤ below → EntriesChecked limit b (refused 9 i)
   walk-high {below} within right found high =
-      fails (record { within = within; faulty = too-high right (omega (arith, height-here walked within right below found)); lowest = fits })
+      fails (record {
+        within = within;
+        faulty = too-high right (omega (arith, height-here walked within right below found));
+        lowest = fits;
+      })

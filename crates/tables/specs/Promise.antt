@@ -10,7 +10,8 @@ use Rattle.query.specs.Fault.{Limits, EntryFits, EntryFault, Query, QueryFault,
 -- the entries alone: "lowest entry, in it 8, 9"
 abbrev pub EntriesChecked : Limits → Bytes → Said → Type 0
 EntriesChecked limit b said =
-    Checked ((i : ℕ) → i < length (entries b) → EntryFits limit b i) (Lowest (EntryFits limit b) (EntryFault limit b) (length (entries b))) (length (entries b)) said
+    Checked ((i : ℕ) → i < length (entries b) → EntryFits limit b i)
+    (Lowest (EntryFits limit b) (EntryFault limit b) (length (entries b))) (length (entries b)) said
 
 -- a query, of which the limits of its table are given
 abbrev pub QueryChecked : Limits → Bytes → Said → Type 0

@@ -1,10 +1,11 @@
 // The check of a query table and of a filter table: one walk over the entries serves both.
 ghost use mathlib.Core.Path.{_≡_};
+ghost use mathlib.Core.Logic.{_↔_};
 ghost use Prim.Native.Nat.{_≤_};
+ghost use lib.Dec.{T};
 ghost use lib.ListN.{length};
 ghost use Rattle.reply.specs.Reply.{said};
 ghost use Rattle.reply.specs.Bytes.{Whole};
-ghost use Rattle.tree.proofs.Tests.{Decides};
 ghost use Rattle.query.specs.Table.{entries as entriesOf};
 ghost use Rattle.query.specs.Fault.{Limits};
 ghost use Rattle.tables.specs.Promise.{EntriesChecked, QueryChecked, FilterChecked};
@@ -17,8 +18,8 @@ use crate::limits::FILTER_ENTRIES;
 use crate::limits::FILTER_HEIGHT;
 use crate::order::entry_right;
 use reply::Reason;
-use reply::Refusal;
 use reply::Reply;
+use reply::refuse;
 
 // "lowest entry, in it 8, 9". The heights of the entries before are kept, in two bytes each, since they are cleared for every table.
 fn check_entries(table: &[u8], height: u16) -> Reply
@@ -30,17 +31,11 @@ fn check_entries(table: &[u8], height: u16) -> Reply
     let mut i = 0;
     while i < n {
         if !entry_right(table, i) {
-            return Reply::Refused(Refusal {
-                reason: Reason::EntryMalformed,
-                place: i,
-            });
+            return refuse(Reason::EntryMalformed, i);
         }
         let below = height_below(&heights, table, i);
         if height <= below {
-            return Reply::Refused(Refusal {
-                reason: Reason::EntryHeight,
-                place: i,
-            });
+            return refuse(Reason::EntryHeight, i);
         }
         heights[i] = below + 1;
         i += 1;
@@ -51,7 +46,7 @@ fn check_entries(table: &[u8], height: u16) -> Reply
 // Whether the table is whole entries, and at most as many as given.
 pub fn whole(table: &[u8], entries: usize) -> bool
     requires { ⌜ entries ≤ 1024 ⌝ }
-    ensures { λ r. ⌜ Decides r (Whole 6 entries (now (table .entry))) ⌝ }
+    ensures { λ r. ⌜ T r ↔ Whole 6 entries (now (table .entry)) ⌝ }
 {
     let length = table.len();
     (length % 6 == 0) & (length <= 6 * entries)
@@ -64,10 +59,7 @@ pub fn check_query(table: &[u8], entries: usize, height: u16) -> Reply
 {
     let fits = (0 < table.len()) & whole(table, entries);
     if !fits {
-        return Reply::Refused(Refusal {
-            reason: Reason::QueryTable,
-            place: 0,
-        });
+        return refuse(Reason::QueryTable, 0);
     }
     let reply = check_entries(table, height);
     let Reply::Count(n) = reply else {
@@ -77,10 +69,7 @@ pub fn check_query(table: &[u8], entries: usize, height: u16) -> Reply
     if sort_at(table, last) == PATH {
         return reply;
     }
-    Reply::Refused(Refusal {
-        reason: Reason::QueryTable,
-        place: last,
-    })
+    refuse(Reason::QueryTable, last)
 }
 
 // "7, then lowest entry, in it 8, 9"
@@ -88,10 +77,7 @@ pub fn check_filters(table: &[u8]) -> Reply
     ensures { λ r. ⌜ FilterChecked (now (table .entry)) (said r) ⌝ }
 {
     if !whole(table, FILTER_ENTRIES) {
-        return Reply::Refused(Refusal {
-            reason: Reason::FilterLength,
-            place: 0,
-        });
+        return refuse(Reason::FilterLength, 0);
     }
     check_entries(table, FILTER_HEIGHT)
 }

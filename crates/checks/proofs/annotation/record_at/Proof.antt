@@ -12,7 +12,12 @@ returns : tie.Need-returns
 returns c =
     let a = c .before .before .args in
     let six = c .entry-at .ensures in
-    rw (record-entry (now (a .annotation)) (a .i)) (record { parent = six .kind; child = six .label; filter = six .left; rest = six .right })
+    rw (record-entry (now (a .annotation)) (a .i)) (record {
+      parent = six .kind;
+      child = six .label;
+      filter = six .left;
+      rest = six .right;
+    })
 
 pub record-at-spec : {M : Type 1} → statement M
 record-at-spec = tie.close (tie.spec entry-at-requires returns)

@@ -1,5 +1,5 @@
--- `checks::check::check_annotation` looks at the records in turn: those that were passed are right. The measure is the number of records that
--- are left. Assumes nothing.
+-- `checks::check::check_annotation` looks at the records in turn: those that were passed are right. The measure is the number of records
+-- that are left. Assumes nothing.
 use Prim.Native.Nat.{ℕ, _-_, _≤_, _<_}
 use native.Mathlib.Omega.{arith}
 use borrow.Author.Count.{below-none, below-more}
@@ -28,11 +28,11 @@ refuse-requires c κs = search needs
 returns : tie.Need-returns Inv-loop μ-loop
 returns c =
     let test = c .before .before in
-    rw (c .refuse .ensures) (fails (bad-length (test-failed (test .whole .result) (test .whole .ensures .exact) (c .before .if1 .taken))))
+    rw (c .refuse .ensures) (fails (bad-length (test-failed (test .whole .result) (test .whole .ensures) (c .before .if1 .taken))))
 
 -- an annotation whose records are looked at has the length
 size : (c : tie.Else1 Inv-loop μ-loop) → let start = c .before .before .before .before in Whole 6 32 (now (start .args .annotation))
-size c = test-passed (c .before .whole .result) (c .before .whole .ensures .exact) (c .if1 .left)
+size c = test-passed (c .before .whole .result) (c .before .whole .ensures) (c .if1 .left)
 
 count-requires : tie.Need-count-requires Inv-loop μ-loop
 count-requires c κs = search needs
@@ -64,7 +64,8 @@ loop-less c = omega arith
 loop-again : tie.Need-loop-again Inv-loop μ-loop
 loop-again c =
     let checked = c .before .before in
-    (omega arith, below-more _ _ (checked .before .before .loop .inv .1) (right-of (c .enum-told .given .1) (checked .check-record .ensures)))
+    let right = right-of (c .enum-told .given .1) (checked .check-record .ensures) in
+    (omega arith, below-more _ _ (checked .before .before .loop .inv .1) right)
 
 returns-3 : tie.Need-returns-3 Inv-loop μ-loop
 returns-3 c =

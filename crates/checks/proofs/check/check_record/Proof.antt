@@ -41,12 +41,16 @@ returns-2 c =
     let above = passed .before in
     let start = above .before .before .before .before in
     lowest-refused (start .pre .0) (start .pre .1)
-    (not-above (formed passed) (test-failed (above .ascends .result) (above .ascends .ensures) (c .before .if2 .taken))) (c .refuse2 .ensures)
+    (not-above (formed passed) (test-failed (above .ascends .result) (above .ascends .ensures) (c .before .if2 .taken)))
+    (c .refuse2 .ensures)
 
 returns-3 : tie.Need-returns-3
 returns-3 c =
     let above = c .before .before in
-    passes (record { form = formed (c .before); ascends = test-passed (above .ascends .result) (above .ascends .ensures) (c .if2 .left) }) refl
+    passes (record {
+      form = formed (c .before);
+      ascends = test-passed (above .ascends .result) (above .ascends .ensures) (c .if2 .left);
+    }) refl
 
 pub check-record-spec : {M : Type 1} → statement M
 check-record-spec =

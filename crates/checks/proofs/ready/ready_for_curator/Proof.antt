@@ -1,4 +1,5 @@
--- `checks::ready::ready_for_curator` checks in 01's order: the room, then the roll, and behind it filter table, annotation and query. Assumes nothing.
+-- `checks::ready::ready_for_curator` checks in 01's order: the room, then the roll, and behind it filter table, annotation and query.
+-- Assumes nothing.
 use borrow.Author.Needs.{needs}
 use Rattle.roll.specs.Promise.{RollChecked}
 use Rattle.checks.specs.Ready.{ReadyForCurator}
@@ -26,8 +27,7 @@ returns-2 : tie.Need-returns-2
 unfolding ReadyForCurator RollChecked
 returns-2 c =
     let roll = c .before .before in
-    both-ready (roll .check-roll .result) (c .before .check-asked .result) (roll .before .if1 .left) (roll .check-roll .ensures)
-    (c .before .check-asked .ensures) (c .in-turn .ensures)
+    both-ready (roll .before .if1 .left) (roll .check-roll .ensures) (c .before .check-asked .ensures) (c .in-turn .ensures)
 
 pub ready-for-curator-spec : {M : Type 1} → statement M
 ready-for-curator-spec = tie.close (tie.spec refuse-requires returns check-roll-requires check-asked-requires in-turn-requires returns-2)

@@ -26,8 +26,7 @@ returns-2 : tie.Need-returns-2
 unfolding ReadyToAnswer RollChecked
 returns-2 c =
     let roll = c .before .before in
-    both-ready (roll .check-roll .result) (c .before .check-query .result) (roll .before .if1 .left) (roll .check-roll .ensures)
-    (c .before .check-query .ensures) (c .in-turn .ensures)
+    both-ready (roll .before .if1 .left) (roll .check-roll .ensures) (c .before .check-query .ensures) (c .in-turn .ensures)
 
 pub ready-to-answer-spec : {M : Type 1} → statement M
 ready-to-answer-spec = tie.close (tie.spec refuse-requires returns check-roll-requires check-query-requires in-turn-requires returns-2)

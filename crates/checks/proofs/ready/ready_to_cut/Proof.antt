@@ -26,8 +26,7 @@ returns-2 : tie.Need-returns-2
 unfolding ReadyToCut RollChecked
 returns-2 c =
     let roll = c .before .before in
-    both-ready (roll .check-roll .result) (c .before .check-annotated .result) (roll .before .if1 .left) (roll .check-roll .ensures)
-    (c .before .check-annotated .ensures) (c .in-turn .ensures)
+    both-ready (roll .before .if1 .left) (roll .check-roll .ensures) (c .before .check-annotated .ensures) (c .in-turn .ensures)
 
 pub ready-to-cut-spec : {M : Type 1} → statement M
 ready-to-cut-spec = tie.close (tie.spec refuse-requires returns check-roll-requires check-annotated-requires in-turn-requires returns-2)

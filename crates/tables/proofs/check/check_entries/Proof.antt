@@ -37,8 +37,9 @@ abbrev passed : tie.After-height-below Inv-loop μ-loop → tie.Else1 Inv-loop �
 passed c = c .before .before
 
 -- entry i has passed the test
-ordered : (c : tie.Else1 Inv-loop μ-loop) → EntryRight (entries (start (tested (c .before)) .args .table .now)) (tested (c .before) .loop .i)
-ordered c = test-passed (c .before .entry-right .result) (c .before .entry-right .ensures .exact) (c .if1 .left)
+ordered : (c : tie.Else1 Inv-loop μ-loop)
+    → EntryRight (entries (start (tested (c .before)) .args .table .now)) (tested (c .before) .loop .i)
+ordered c = test-passed (c .before .entry-right .result) (c .before .entry-right .ensures) (c .if1 .left)
 
 count-requires : tie.Need-count-requires Inv-loop μ-loop
 count-requires c κs = search needs
@@ -49,10 +50,14 @@ loop-holds c = record { within = omega arith; counted = c .count .ensures; room 
 entry-right-requires : tie.Need-entry-right-requires Inv-loop μ-loop
 entry-right-requires c κs = search needs
 
+refuse-requires : tie.Need-refuse-requires Inv-loop μ-loop
+refuse-requires c κs = search needs
+
 returns : tie.Need-returns Inv-loop μ-loop
 returns c limit same =
-    walk-malformed _ (tested (c .before) .loop .inv .walked) limit same (omega arith)
-    (test-failed (c .before .entry-right .result) (c .before .entry-right .ensures .exact) (c .if1 .taken))
+    let test = c .before .before in
+    rw (c .refuse .ensures) (walk-malformed _ (tested test .loop .inv .walked) limit same (omega arith)
+    (test-failed (test .entry-right .result) (test .entry-right .ensures) (c .before .if1 .taken)))
 
 slice-aggregate-height-below : tie.Need-slice-aggregate-height-below Inv-loop μ-loop
 slice-aggregate-height-below c = search needs
@@ -60,10 +65,16 @@ slice-aggregate-height-below c = search needs
 height-below-requires : tie.Need-height-below-requires Inv-loop μ-loop
 height-below-requires c κs = search needs
 
+refuse-requires-2 : tie.Need-refuse-requires-2 Inv-loop μ-loop
+refuse-requires-2 c κs = search needs
+
 returns-2 : tie.Need-returns-2 Inv-loop μ-loop
 returns-2 c limit same =
-    let entry = passed (c .before) in
-    walk-high _ (tested (entry .before) .loop .inv .walked) limit same (omega arith) (ordered entry) (c .before .height-below .ensures) (omega arith)
+    let found = c .before .before in
+    let entry = passed found in
+    rw (c .refuse2 .ensures)
+    (walk-high _ (tested (entry .before) .loop .inv .walked) limit same (omega arith)
+    (ordered entry) (found .height-below .ensures) (omega arith))
 
 add-heights : tie.Need-add-heights Inv-loop μ-loop
 add-heights c = search needs
@@ -103,9 +114,11 @@ check-entries-spec =
     count-requires
     loop-holds
     entry-right-requires
+    refuse-requires
     returns
     slice-aggregate-height-below
     height-below-requires
+    refuse-requires-2
     returns-2
     add-heights
     mul-heights

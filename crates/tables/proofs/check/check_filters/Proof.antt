@@ -12,17 +12,22 @@ use Rattle.tables.proofs.check.check_filters.Tie as tie
 whole-requires : tie.Need-whole-requires
 whole-requires c κs = search needs
 
+refuse-requires : tie.Need-refuse-requires
+refuse-requires c κs = search needs
+
 returns : tie.Need-returns
-returns c = filter-length (test-failed (c .before .whole .result) (c .before .whole .ensures .exact) (c .if1 .taken))
+returns c =
+    let whole = c .before .before .whole in
+    rw (c .refuse .ensures) (filter-length (test-failed (whole .result) (whole .ensures) (c .before .if1 .taken)))
 
 check-entries-requires : tie.Need-check-entries-requires
 check-entries-requires c κs =
-    omega (arith, entries-within (test-passed (c .before .whole .result) (c .before .whole .ensures .exact) (c .if1 .left)))
+    omega (arith, entries-within (test-passed (c .before .whole .result) (c .before .whole .ensures) (c .if1 .left)))
 
 returns-2 : tie.Need-returns-2
 returns-2 c =
-    filter-entries (test-passed (c .before .before .whole .result) (c .before .before .whole .ensures .exact) (c .before .if1 .left))
+    filter-entries (test-passed (c .before .before .whole .result) (c .before .before .whole .ensures) (c .before .if1 .left))
     (said (c .check-entries .result)) (c .check-entries .ensures filters refl)
 
 pub check-filters-spec : {M : Type 1} → statement M
-check-filters-spec = tie.close (tie.spec whole-requires returns check-entries-requires returns-2)
+check-filters-spec = tie.close (tie.spec whole-requires refuse-requires returns check-entries-requires returns-2)

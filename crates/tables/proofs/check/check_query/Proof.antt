@@ -9,8 +9,8 @@ use lib.ListN.{length}
 use borrow.Author.Needs.{needs}
 use Rattle.reply.specs.declared.Reply.{Reply}
 use Rattle.reply.specs.Reply.{said}
-use Rattle.reply.specs.Bytes.{Bytes}
-use Rattle.tree.proofs.Tests.{test-passed, test-failed}
+use Rattle.reply.specs.Bytes.{Bytes, Whole}
+use Rattle.tree.proofs.Tests.{Decides, test-passed, test-failed}
 use Rattle.query.specs.Fault.{Limits, QueryLength}
 use Rattle.tables.specs.Promise.{EntriesChecked}
 use Rattle.tables.proofs.Deciding.{length-test}
@@ -29,7 +29,9 @@ abbrev fits : tie.After-whole → Bool
 fits c = ltb 0 (length (table c)) && c .whole .result
 
 fits-exact : (c : tie.After-whole) → T (fits c) ↔ QueryLength (limit c) (table c)
-fits-exact c = length-test (limit c) (table c) (c .whole .ensures) .exact
+fits-exact c =
+    let whole : Decides (c .whole .result) (Whole 6 (limit c .entries) (table c)) = record { exact = c .whole .ensures } in
+    length-test (limit c) (table c) whole .exact
 
 size : (c : tie.Else1) → QueryLength (limit (c .before)) (table (c .before))
 size c = test-passed (fits (c .before)) (fits-exact (c .before)) (c .if1 .left)
@@ -44,8 +46,13 @@ walked c = c .check-entries .ensures (limit (c .before .before)) refl
 whole-requires : tie.Need-whole-requires
 whole-requires c κs = search needs
 
+refuse-requires : tie.Need-refuse-requires
+refuse-requires c κs = search needs
+
 returns : tie.Need-returns
-returns c = query-length (test-failed (fits (c .before)) (fits-exact (c .before)) (c .if1 .taken))
+returns c =
+    let w = c .before .before in
+    rw (c .refuse .ensures) (query-length (test-failed (fits w) (fits-exact w) (c .before .if1 .taken)))
 
 check-entries-requires : tie.Need-check-entries-requires
 check-entries-requires c κs = omega (arith, entries-within (size c .size))
@@ -77,18 +84,23 @@ returns-3 c =
     query-path (size (w .before)) (reply w) (walked w) (r .reply .given .0 .0) (r .reply .given .1)
     (sym (c .before .sort-at .ensures) ∙ c .if2 .taken)
 
+refuse-requires-2 : tie.Need-refuse-requires-2
+refuse-requires-2 c κs = search needs
+
 returns-4 : tie.Need-returns-4
 returns-4 c =
-    let r = c .before .before .before in
+    let sorted = c .before .before in
+    let r = sorted .before .before in
     let w = r .before .before in
-    query-no-path (size (w .before)) (reply w) (walked w) (r .reply .given .0 .0) (r .reply .given .1)
-    (λ e. c .if2 .left (c .before .sort-at .ensures ∙ e))
+    rw (c .refuse2 .ensures) (query-no-path (size (w .before)) (reply w) (walked w) (r .reply .given .0 .0) (r .reply .given .1)
+    (λ e. c .before .if2 .left (sorted .sort-at .ensures ∙ e)))
 
 pub check-query-spec : {M : Type 1} → statement M
 check-query-spec =
     tie.close
     (tie.spec
     whole-requires
+    refuse-requires
     returns
     check-entries-requires
     enum-known-reply
@@ -97,4 +109,5 @@ check-query-spec =
     sub-last
     sort-at-requires
     returns-3
+    refuse-requires-2
     returns-4)

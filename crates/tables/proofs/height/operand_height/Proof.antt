@@ -12,7 +12,8 @@ returns c o e = height-unused (c .before .args .heights .now) o (c .before .args
 returns-2 : tie.Need-returns-2
 returns-2 c o e =
     let a = c .before .before .args in
-    sym (List·getD-eq-default (a .heights .now) 0 (c .if2 .taken)) ∙ height-used (a .heights .now) o (a .number) (a .sort) e (c .before .if1 .left)
+    sym (List·getD-eq-default (a .heights .now) 0 (c .if2 .taken))
+    ∙ height-used (a .heights .now) o (a .number) (a .sort) e (c .before .if1 .left)
 
 mul-result : tie.Need-mul-result
 mul-result c = search needs

@@ -8,10 +8,10 @@ is-label-requires : tie.Need-is-label-requires
 is-label-requires c κs = search needs
 
 returns : tie.Need-returns
-returns c = rw (c .before .if1 .taken) (label-used (c .before .before .args .label) (c .is-label .ensures))
+returns c = rw (c .before .if1 .taken) (label-used (c .is-label .result) (c .before .before .args .label) (c .is-label .ensures))
 
 returns-2 : tie.Need-returns-2
-returns-2 c = rw (c .if1 .left) (label-unused (c .before .args .label))
+returns-2 c = rw (c .if1 .left) (label-unused (c .before .args .label) .exact)
 
 pub label-right-spec : {M : Type 1} → statement M
 label-right-spec = tie.close (tie.spec is-label-requires returns returns-2)
