@@ -1,7 +1,7 @@
 -- How call 2 comes to its reply. Assumes nothing.
 use Prim.Native.Nat.{ℕ, _*_, _≤_, _<_, zero-le}
 use native.Mathlib.Omega.{arith}
-use mathlib.Core.Path.{_≡_, refl, sym, ap, _∙_, subst, subst₂}
+use mathlib.Core.Path.{_≡_, refl, sym, ap, _∙_, subst₂}
 use mathlib.Core.List.{[], _∷_, _++_}
 use lib.ListN.{length, take, drop}
 use lib.Seq.{take-length}
@@ -29,13 +29,15 @@ use Rattle.tokens.specs.declared.answer.Parsed.the-variants.{Got, Broken, Deep}
 use Rattle.reader.specs.Reader.{Parses, parses, breaks-off, too-many-open, Answered}
 
 -- a check that counts says that the table is a query
-query-counted : {table : Bytes} {c : ℕ} {r : Reply} → r ≡ Count c → QueryChecked curators table (said r) → Query curators table × (c ≡ length (entries table))
-query-counted {table = table} e x = counted (subst (λ (q : Reply). QueryChecked curators table (said q)) e x)
+query-counted : {table : Bytes} {c : ℕ} {r : Reply} → r ≡ Count c → QueryChecked curators table (said r)
+    → Query curators table × (c ≡ length (entries table))
+query-counted {table = table} e x = counted (rw e at x)
 
 -- The table is checked: by what the check replies, it is written out or refused.
 module _ {table : Bytes} (before : Bytes) where
   -- there is room for it
-  pub room-enough : {c : ℕ} {r : Reply} → r ≡ Count c → QueryChecked curators table (said r) → 1536 ≤ length before → length table ≤ length before
+  pub room-enough : {c : ℕ} {r : Reply} → r ≡ Count c → QueryChecked curators table (said r) → 1536 ≤ length before
+      → length table ≤ length before
   room-enough e x room = omega (arith, query-counted e x .0 .size .size .most)
 
   -- it is written
@@ -43,14 +45,21 @@ module _ {table : Bytes} (before : Bytes) where
       → after ≡ take (length table) table ++ drop (length table) before → Answered table before (count c) after
   written-out e x room copied =
       let (query, size) = query-counted e x in
-      done zero-le query (size, record { room = room-enough e x room; bytes = copied ∙ ap (λ (b : Bytes). b ++ drop (length table) before) (take-length table) })
+      done zero-le query (
+        size,
+        record {
+          room = room-enough e x room;
+          bytes = copied ∙ ap (λ (b : Bytes). b ++ drop (length table) before) (take-length table);
+        },
+      )
 
   -- a check that refuses says that it is no query
-  pub refused-out : (r : Reply) {s : Said} → OneOf (1 ∷ []) (tagOf the-reply.the-type r) → QueryChecked curators table (said r) → s ≡ refused 16 0 → Answered table before s before
+  pub refused-out : (r : Reply) {s : Said} → OneOf (1 ∷ []) (tagOf the-reply.the-type r) → QueryChecked curators table (said r)
+      → s ≡ refused 16 0 → Answered table before s before
   refused-out (Count c) no-such x e = absurd (omega arith)
   refused-out (Refused f) u x e =
       let no-query : ¬ Query curators table = query-wrong curators table (number (f .reason)) (f .place) (faulted x) in
-      subst (λ (s : Said). Answered table before s before) (sym e) (turned-away zero-le (refl, refl, no-query))
+      rw e (turned-away zero-le (refl, refl, no-query))
 
 -- What the readers say of a text that they read to its end.
 module _ {text : Bytes} {p : Parsed} {at n : ℕ} {table : Bytes} (e : p ≡ Got at n) (x : Parses text p table) where
@@ -65,7 +74,7 @@ module _ {text : Bytes} {p : Parsed} {at n : ℕ} {table : Bytes} (e : p ≡ Got
 
   -- and they say it
   pub got-read : Read
-  got-read = go (subst (λ (q : Parsed). Parses text q table) e x)
+  got-read = go (rw e at x)
     where
       go : Parses text (Got at n) table → Read
       go (parses {p = path} y s c l m f) = record { path = path; text-of = y; shallow = s; count = c; long = l; few = m; front = f }
@@ -74,32 +83,35 @@ module _ (text before : Bytes) where
   -- too little room
   pub short-room : {s : Said} → length before < 1536 → s ≡ refused 1 0 → TextRead text before s before
   unfolding TextRead
-  short-room l e = subst (λ (s : Said). TextRead text before s before) (sym e) (short l)
+  short-room l e = rw e (short l)
 
   module _ (room : 1536 ≤ length before) where
     -- a fault of the text
     pub fault-told : {n p : ℕ} {s : Said} → TextFault text n p → s ≡ refused n p → TextRead text before s before
     unfolding TextRead
-    fault-told f e = subst (λ (s : Said). TextRead text before s before) (sym e) (turned-away room f)
+    fault-told f e = rw e (turned-away room f)
 
     -- a byte that the grammar does not take
-    pub broken-told : {p : Parsed} {i : ℕ} {after : Bytes} {s : Said} → p ≡ Broken i → Parses text p after → s ≡ refused 14 i → TextRead text before s before
-    broken-told {i = i} {after = after} e x = fault-told (go (subst (λ (q : Parsed). Parses text q after) e x))
+    pub broken-told : {p : Parsed} {i : ℕ} {after : Bytes} {s : Said} → p ≡ Broken i → Parses text p after → s ≡ refused 14 i
+        → TextRead text before s before
+    broken-told {i = i} {after = after} e x = fault-told (go (rw e at x))
       where
         go : Parses text (Broken i) after → TextFault text 14 i
         go (breaks-off f) = f
 
     -- a bracket too many
-    pub deep-told : {p : Parsed} {i : ℕ} {after : Bytes} {s : Said} → p ≡ Deep i → Parses text p after → s ≡ refused 15 i → TextRead text before s before
-    deep-told {i = i} {after = after} e x = fault-told (go (subst (λ (q : Parsed). Parses text q after) e x))
+    pub deep-told : {p : Parsed} {i : ℕ} {after : Bytes} {s : Said} → p ≡ Deep i → Parses text p after → s ≡ refused 15 i
+        → TextRead text before s before
+    deep-told {i = i} {after = after} e x = fault-told (go (rw e at x))
       where
         go : Parses text (Deep i) after → TextFault text 15 i
         go (too-many-open f) = f
 
     -- the text is read, or its table is too large
-    pub text-told : {p : Parsed} {at n : ℕ} {table after : Bytes} {s : Said} → TextLength text → p ≡ Got at n → Parses text p table → Answered (take (6 * n) table) before s after → TextRead text before s after
+    pub text-told : {p : Parsed} {at n : ℕ} {table after : Bytes} {s : Said} → TextLength text → p ≡ Got at n → Parses text p table
+        → Answered (take (6 * n) table) before s after → TextRead text before s after
     unfolding TextRead
-    text-told {n = n} {after = after} {s = s} right e x a = go (subst (λ (b : Bytes). Answered b before s after) (found .front) a)
+    text-told {n = n} {after = after} {s = s} right e x a = go (rw (found .front) at a)
       where
         found : Read e x
         found = got-read e x
@@ -110,10 +122,16 @@ module _ (text before : Bytes) where
         go : {s : Said} {after : Bytes} → Answered (entryBytes (tableOf (found .path))) before s after → TextRead text before s after
         go (done z query made) =
             let right-text : TextOf (found .path) text =
-            record { length = right; path = found .text-of; shallow = found .shallow; fits = query-fits (found .text-of) short-table query } in
+            record {
+              length = right;
+              path = found .text-of;
+              shallow = found .shallow;
+              fits = query-fits (found .text-of) short-table query;
+            } in
             let count = made .0 ∙ ap length (table-back (found .path) short-table) in
             done room (found .path, right-text) (record { path = found .path; text-of = right-text; count = count; written = made .1 })
         go (short less) = absurd (omega arith)
         go (turned-away z fault) =
-            let large : TextFault text 16 0 = too-large right (found .text-of) (found .shallow) (λ fits. fault .2 (fits-query (found .text-of) fits)) in
+            let large : TextFault text 16 0 =
+            too-large right (found .text-of) (found .shallow) (λ fits. fault .2 (fits-query (found .text-of) fits)) in
             turned-away room (subst₂ (TextFault text) (sym (fault .0)) (sym (fault .1)) large)

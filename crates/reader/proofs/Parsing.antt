@@ -45,7 +45,8 @@ module _ {text : Bytes} where
 
   module _ (right : TextLength text) where
     -- reading stops at a place
-    stops-parses : {p : Parsed} {s : Stop} {i : ℕ} {after : Bytes} → StopsAt p s i → PathReads 32 0 text (stopped s (drop i text)) → i ≤ length text → Parses text p after
+    stops-parses : {p : Parsed} {s : Stop} {i : ℕ} {after : Bytes} → StopsAt p s i → PathReads 32 0 text (stopped s (drop i text))
+        → i ≤ length text → Parses text p after
     stops-parses {i = i} broken-at rd w = breaks-off (subst (TextFault text 14) (place text i w) (broken-fault (judged right rd)))
     stops-parses {i = i} deep-at rd w = too-many-open (subst (TextFault text 15) (place text i w) (deep-fault (judged right rd)))
 
@@ -55,24 +56,28 @@ module _ {text : Bytes} where
     stopped-parses f (stops st rd w) = stops-parses st rd w
 
     -- a path is read, and more text stands behind it
-    pub longer-parses : {p : Parsed} {at n : ℕ} {before after : Bytes} → p ≡ Got at n → at < length text → Follows paths 0 text 0 before 0 p after → Parses text (Broken at) after
+    pub longer-parses : {p : Parsed} {at n : ℕ} {before after : Bytes} → p ≡ Got at n → at < length text
+        → Follows paths 0 text 0 before 0 p after → Parses text (Broken at) after
     longer-parses {at = at} e l f =
         let (x, rd, st) = got-stands e f in
         let next : drop at text ≡ getD text at 0 ∷ drop (at + 1) text = begins text at l in
-        let fault = more-fault (judged right (subst (λ (b : Bytes). PathReads 32 0 text (got x b)) next rd)) in
+        let fault = more-fault (judged right (rw next at rd)) in
         let here : length text - suc (length (drop (at + 1) text)) ≡ at = omega (arith, length-drop (at + 1) text) in
         breaks-off (subst (TextFault text 14) here fault)
 
     -- a path is read, and nothing stands behind it
-    pub whole-parses : {p : Parsed} {at n : ℕ} {before after : Bytes} → p ≡ Got at n → length text ≤ at → 12 * length text ≤ length before → length after ≡ length before → Follows paths 0 text 0 before 0 p after
+    pub whole-parses : {p : Parsed} {at n : ℕ} {before after : Bytes} → p ≡ Got at n → length text ≤ at → 12 * length text ≤ length before
+        → length after ≡ length before → Follows paths 0 text 0 before 0 p after
         → Parses text (Got at n) after
     unfolding tableOf
     whole-parses {at = at} {n = n} {after = after} e l room kept f =
         let (x, rd, st) = got-stands e f in
-        let (text-of, shallow) = whole-text (judged right (subst (λ (b : Bytes). PathReads 32 0 text (got x b)) (drop-of-length-le text {i = at} l) rd)) in
+        let (text-of, shallow) =
+        whole-text (judged right (rw (drop-of-length-le text {i = at} l) at rd)) in
         let few = st .few in
         let within = st .within in
         let most = right .most in
         let count : n ≡ length (pathEntries 0 x) = st .count ∙ zero-add _ in
-        let front : take (6 * n) after ≡ entryBytes (pathEntries 0 x) = subst (λ (m : ℕ). take (6 * m) after ≡ entryBytes (pathEntries 0 x)) (sym (st .count)) (st .table .front) in
+        let front : take (6 * n) after ≡ entryBytes (pathEntries 0 x) =
+        subst (λ (m : ℕ). take (6 * m) after ≡ entryBytes (pathEntries 0 x)) (sym (st .count)) (st .table .front) in
         parses {p = x} {after = after} text-of shallow count (omega arith) (omega arith) front

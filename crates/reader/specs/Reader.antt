@@ -1,5 +1,5 @@
--- What the parts of call 2 come to: a text is parsed whole, and the table of a text in the grammar is written out if it is within the limits.
--- Nothing here has to be believed: call 2's promise is the crate text's.
+-- What the parts of call 2 come to: a text is parsed whole, and the table of a text in the grammar is written out if it is within the
+-- limits. Nothing here has to be believed: call 2's promise is the crate text's.
 use Prim.Native.Nat.{ℕ, _*_, _≤_}
 use mathlib.Core.Path.{_≡_}
 use lib.ListN.{length, take}
@@ -17,7 +17,8 @@ use Rattle.tokens.specs.declared.answer.Parsed.the-variants.{Got, Broken, Deep}
 
 -- The text is one of a path, whose n entries stand at the front of the table; or it has the fault 14 or 15.
 pub data Parses (text : Bytes) : Parsed → Bytes → Type 0 where
-  parses : {p : Path} {at n : ℕ} {after : Bytes} → PathText text p → ((k : ℕ) → ¬ OneTooMany text k) → n ≡ length (tableOf p) → 6 * n ≤ length after
+  parses : {p : Path} {at n : ℕ} {after : Bytes} → PathText text p → ((k : ℕ) → ¬ OneTooMany text k) → n ≡ length (tableOf p)
+      → 6 * n ≤ length after
       → n ≤ 2048 → take (6 * n) after ≡ entryBytes (tableOf p) → Parses text (Got at n) after
   breaks-off : {i : ℕ} {after : Bytes} → TextFault text 14 i → Parses text (Broken i) after
   too-many-open : {i : ℕ} {after : Bytes} → TextFault text 15 i → Parses text (Deep i) after
@@ -25,4 +26,5 @@ pub data Parses (text : Bytes) : Parsed → Bytes → Type 0 where
 -- The table is written into the room if it is a curator's query, and refused with 16 if not.
 abbrev pub Answered : Bytes → Bytes → Said → Bytes → Type 0
 Answered table before said after =
-    Outcome 0 (Query curators table) (λ n p. (n ≡ 16) × (p ≡ 0) × ¬ Query curators table) (λ c front. (c ≡ length (entries table)) × Written before table front) before said after
+    Outcome 0 (Query curators table) (λ n p. (n ≡ 16) × (p ≡ 0) × ¬ Query curators table)
+    (λ c front. (c ≡ length (entries table)) × Written before table front) before said after

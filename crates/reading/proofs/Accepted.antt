@@ -1,12 +1,12 @@
 -- The table of a text is a curator's query exactly if it fits: what call 2 writes, the calls that take a query accept. Assumes nothing.
-use Prim.Native.Nat.{_-_, _≤_, _<_}
+use Prim.Native.Nat.{_≤_, _<_}
 use native.Mathlib.Omega.{arith}
 use mathlib.Core.Path.{_≡_, sym, subst}
 use lib.ListN.{length}
 use Rattle.reply.specs.Bytes.{Bytes}
 use Rattle.query.specs.Kind.{path}
 use Rattle.query.specs.Syntax.{Path}
-use Rattle.query.specs.Table.{Entries, entries, entryBytes, heightAt, HasSort, EntryRight}
+use Rattle.query.specs.Table.{Entries, entries, entryBytes, heightAt, EntryRight}
 use Rattle.query.specs.Fault.{curators, last, Query}
 use Rattle.text.specs.Grammar.{PathText}
 use Rattle.text.specs.Written.{tableOf}
@@ -29,8 +29,11 @@ module _ {text : Bytes} {p : Path} (x : PathText text p) where
         size = record { some = omega arith; size = record { multiple = omega arith; most = omega arith } };
         entry = λ i l.
             let within : i < length (tableOf p) = subst (λ (es : Entries). i < length es) (sym back) l in
-            record { right = subst (λ (es : Entries). EntryRight es i) back (o .right i within); low = subst (λ (es : Entries). heightAt es i ≤ 32) back (fits .low i within) };
-        path = subst (λ (es : Entries). HasSort es (length es - 1) path) back (o .last);
+            record {
+              right = subst (λ (es : Entries). EntryRight es i) back (o .right i within);
+              low = subst (λ (es : Entries). heightAt es i ≤ 32) back (fits .low i within);
+            };
+        path = rw back at (o .last);
       }
 
   -- and a query fits
@@ -41,7 +44,7 @@ module _ {text : Bytes} {p : Path} (x : PathText text p) where
       let back : entries (entryBytes (tableOf p)) ≡ tableOf p = table-back p few in
       record {
         few = omega arith;
-        low = λ i l. subst (λ (es : Entries). heightAt es i ≤ 32) back (q .entry i (subst (λ (es : Entries). i < length es) (sym back) l) .low);
+        low = λ i l. rw back at (q .entry i (subst (λ (es : Entries). i < length es) (sym back) l) .low);
       }
 
 -- the table of an accepted text is a query

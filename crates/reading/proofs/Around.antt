@@ -74,39 +74,27 @@ shut bracket.Curly h f = term-read (h .0) (h .2) (h .1 f)
 -- no joining byte opens a bracket
 pub joint-opens-nothing : (c : Chain) → ¬ T (opening (joining c))
 unfolding opening
-joint-opens-nothing chain.Path t = t
-joint-opens-nothing chain.Sequence t = t
-joint-opens-nothing chain.Filter t = t
-joint-opens-nothing chain.Conjunction t = t
+joint-opens-nothing c = elim c [ chain.Path ↦ λ t. t | chain.Sequence ↦ λ t. t | chain.Filter ↦ λ t. t | chain.Conjunction ↦ λ t. t ]
+
+-- nor does one that closes a bracket
+pub close-opens-nothing : (k : Bracket) → ¬ T (opening (closingByte k))
+unfolding opening
+close-opens-nothing k = elim k [ bracket.Square ↦ λ t. t | bracket.Round ↦ λ t. t | bracket.Curly ↦ λ t. t ]
 
 -- the byte that opens a bracket does, where it may
 pub bracket-opens : (k : Bracket) → T (opening (openingByte k))
 unfolding opening
-bracket-opens bracket.Square = tt
-bracket-opens bracket.Round = tt
-bracket-opens bracket.Curly = tt
+bracket-opens k = elim k [ bracket.Square ↦ tt | bracket.Round ↦ tt | bracket.Curly ↦ tt ]
 
 pub opened : (k : Bracket) (h : Holder k) (b : Bytes)
     → look (offer (outside k h)) (openingByte k ∷ b) ≡ goes (wanted (inside k) (held k h) (λ x. x))
-opened bracket.Square h b = refl
-opened bracket.Round h b = refl
-opened bracket.Curly h b = refl
+opened k = elim k [ bracket.Square ↦ λ h b. refl | bracket.Round ↦ λ h b. refl | bracket.Curly ↦ λ h b. refl ]
 
 -- with one more open
 pub one-deeper : (k : Bracket) (h : Holder k) → around-depth (inside k) (held k h) ≡ suc (depth (outside k h))
-one-deeper bracket.Square h = refl
-one-deeper bracket.Round h = refl
-one-deeper bracket.Curly h = refl
+one-deeper k = elim k [ bracket.Square ↦ λ h. refl | bracket.Round ↦ λ h. refl | bracket.Curly ↦ λ h. refl ]
 
 -- and what stands in it may only be closed
-pub closes : (k : Bracket) (h : Holder k) (x : Joined (inside k)) → behind-chain (inside k) (held k h) x ≡ on (closingByte k) (shut k h x) nothing
-closes bracket.Square h x = refl
-closes bracket.Round h x = refl
-closes bracket.Curly h x = refl
-
--- a closing byte opens none
-pub close-opens-nothing : (k : Bracket) → ¬ T (opening (closingByte k))
-unfolding opening
-close-opens-nothing bracket.Square t = t
-close-opens-nothing bracket.Round t = t
-close-opens-nothing bracket.Curly t = t
+pub closes : (k : Bracket) (h : Holder k) (x : Joined (inside k))
+    → behind-chain (inside k) (held k h) x ≡ on (closingByte k) (shut k h x) nothing
+closes k = elim k [ bracket.Square ↦ λ h x. refl | bracket.Round ↦ λ h x. refl | bracket.Curly ↦ λ h x. refl ]

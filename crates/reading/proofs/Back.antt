@@ -9,7 +9,8 @@ use lib.Seq.{getD-at}
 use Rattle.query.specs.Kind.{find, kinds}
 use Rattle.query.specs.Syntax.{Path, self, child, parent, next, previous, stay, then, either, star}
 use Rattle.query.specs.Syntax.{Filter, labelled, leads, always, never, not, and, or}
-use Rattle.query.specs.Table.{Entry, Entries, entries, entryBytes, readOn, Meant, a-path, a-filter, thePath, theFilter, pathIn, filterIn, build, mean, meanings, queryOf}
+use Rattle.query.specs.Table.{Entry, Entries, entries, entryBytes, readOn, Meant, a-path, a-filter, thePath, theFilter, pathIn, filterIn}
+use Rattle.query.specs.Table.{build, mean, meanings, queryOf}
 use Rattle.query.proofs.Bytes.{Below, none, one, entries-back}
 use Rattle.query.proofs.Tables.{read-length, read-append, read-keeps}
 use Rattle.text.specs.Written.{pathEntries, filterEntries, tableOf}
@@ -52,15 +53,19 @@ module _ (before : List Meant) where
     behind-one k es e l m = rw (← operand es l, ← m) (written es e)
 
     -- an entry behind its two operands
-    behind-two : {x y : Meant} (k : Meant → Meant → Meant) (left right : Entries) (e : Entry) → Last before left x → Last (readOn mean before left) right y
+    behind-two : {x y : Meant} (k : Meant → Meant → Meant) (left right : Entries) (e : Entry) → Last before left x
+        → Last (readOn mean before left) right y
         → let l : List Meant = readOn mean (readOn mean before left) right in
         mean l e ≡ k (meantAt l (n + length left - 1)) (meantAt l (n + length left + length right - 1))
         → Last before (left ++ (right ++ e ∷ [])) (k x y)
     behind-two {x} {y} k left right e l r m =
-        let there : Last before (left ++ (right ++ e ∷ [])) (mean (readOn mean (readOn mean before left) right) e) = rw (append-assoc, read-append) at (written (left ++ right) e) in
+        let there : Last before (left ++ (right ++ e ∷ [])) (mean (readOn mean (readOn mean before left) right) e) =
+        rw (append-assoc, read-append) at (written (left ++ right) e) in
         let some : n + length left - 1 < length (readOn mean before left) = omega (arith, next-count left, l .some) in
-        let first : meantAt (readOn mean (readOn mean before left) right) (n + length left - 1) ≡ x = read-keeps mean (readOn mean before left) right (n + length left - 1) (a-path self) some ∙ operand left l in
-        let second : meantAt (readOn mean (readOn mean before left) right) (n + length left + length right - 1) ≡ y = rw (next-count left) at (r .last) in
+        let first : meantAt (readOn mean (readOn mean before left) right) (n + length left - 1) ≡ x =
+        read-keeps mean (readOn mean before left) right (n + length left - 1) (a-path self) some ∙ operand left l in
+        let second : meantAt (readOn mean (readOn mean before left) right) (n + length left + length right - 1) ≡ y =
+        rw (next-count left) at (r .last) in
         rw (← first, ← second, ← m) there
 
 -- The last entry of a path stands for the path, and of a filter for the filter.
@@ -73,7 +78,8 @@ mutual
   path-last parent before n e = written before [] _
   path-last next before n e = written before [] _
   path-last previous before n e = written before [] _
-  path-last (stay f) before n e = behind-one before n e (λ x. a-path (stay (theFilter x))) (filterEntries n f) _ (filter-last f before n e) refl
+  path-last (stay f) before n e =
+      behind-one before n e (λ x. a-path (stay (theFilter x))) (filterEntries n f) _ (filter-last f before n e) refl
   path-last (then p q) before n e =
       let left : Entries = pathEntries n p in
       behind-two before n e (λ x y. a-path (then (thePath x) (thePath y))) left (pathEntries (n + length left) q) _
@@ -86,10 +92,12 @@ mutual
 
   filter-last : (f : Filter) (before : List Meant) (n : ℕ) → length before ≡ n → Last before (filterEntries n f) (a-filter f)
   filter-last (labelled l) before n e = written before [] _
-  filter-last (leads p) before n e = behind-one before n e (λ x. a-filter (leads (thePath x))) (pathEntries n p) _ (path-last p before n e) refl
+  filter-last (leads p) before n e =
+      behind-one before n e (λ x. a-filter (leads (thePath x))) (pathEntries n p) _ (path-last p before n e) refl
   filter-last always before n e = written before [] _
   filter-last never before n e = written before [] _
-  filter-last (not f) before n e = behind-one before n e (λ x. a-filter (not (theFilter x))) (filterEntries n f) _ (filter-last f before n e) refl
+  filter-last (not f) before n e =
+      behind-one before n e (λ x. a-filter (not (theFilter x))) (filterEntries n f) _ (filter-last f before n e) refl
   filter-last (and f g) before n e =
       let left : Entries = filterEntries n f in
       behind-two before n e (λ x y. a-filter (and (theFilter x) (theFilter y))) left (filterEntries (n + length left) g) _
@@ -148,8 +156,12 @@ mutual
   path-below next n = none-below n 4 0
   path-below previous n = none-below n 5 0
   path-below (stay f) n = one-below n 6 (filterEntries n f) (filter-below f n)
-  path-below (then p q) n = let left : Entries = pathEntries n p in two-below n 7 left (pathEntries (n + length left) q) (path-below p n) (path-below q (n + length left))
-  path-below (either p q) n = let left : Entries = pathEntries n p in two-below n 8 left (pathEntries (n + length left) q) (path-below p n) (path-below q (n + length left))
+  path-below (then p q) n =
+      let left : Entries = pathEntries n p in
+      two-below n 7 left (pathEntries (n + length left) q) (path-below p n) (path-below q (n + length left))
+  path-below (either p q) n =
+      let left : Entries = pathEntries n p in
+      two-below n 8 left (pathEntries (n + length left) q) (path-below p n) (path-below q (n + length left))
   path-below (star p) n = one-below n 9 (pathEntries n p) (path-below p n)
 
   filter-below : (f : Filter) (n : ℕ) → Below (n + length (filterEntries n f)) (filterEntries n f)
@@ -158,8 +170,12 @@ mutual
   filter-below always n = none-below n 18 0
   filter-below never n = none-below n 19 0
   filter-below (not f) n = one-below n 20 (filterEntries n f) (filter-below f n)
-  filter-below (and f g) n = let left : Entries = filterEntries n f in two-below n 21 left (filterEntries (n + length left) g) (filter-below f n) (filter-below g (n + length left))
-  filter-below (or f g) n = let left : Entries = filterEntries n f in two-below n 22 left (filterEntries (n + length left) g) (filter-below f n) (filter-below g (n + length left))
+  filter-below (and f g) n =
+      let left : Entries = filterEntries n f in
+      two-below n 21 left (filterEntries (n + length left) g) (filter-below f n) (filter-below g (n + length left))
+  filter-below (or f g) n =
+      let left : Entries = filterEntries n f in
+      two-below n 22 left (filterEntries (n + length left) g) (filter-below f n) (filter-below g (n + length left))
 
 -- the bytes written for a path are read back as its table, if the entries' numbers have two bytes
 pub table-back : (p : Path) → length (tableOf p) ≤ 65536 → entries (entryBytes (tableOf p)) ≡ tableOf p

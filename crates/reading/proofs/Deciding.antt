@@ -2,7 +2,7 @@
 use Prim.Native.Nat.{ℕ, zero, suc, _+_, _-_, _*_, _≤_, _<_}
 use native.Mathlib.Omega.{arith}
 use native.Mathlib.Decide.{ℕ-discrete, decLe, decLt}
-use mathlib.Core.Path.{_≡_, refl, sym, ap, subst}
+use mathlib.Core.Path.{_≡_, refl, ap, subst}
 use mathlib.Core.Logic.{_⊎_, inl, inr, ⊎-elim}
 use mathlib.Core.List.{List, [], _∷_, List·Memᴰ, List·Memᴰ·head, List·Memᴰ·tail, List·Memᴰ·not-nil, List·Memᴰ·cases-cons}
 use lib.ListN.{length}
@@ -14,7 +14,8 @@ use Rattle.reading.specs.declared.Chain.the-variants as chains
 use Rattle.reading.specs.declared.Bracket.{Bracket}
 use Rattle.reading.specs.declared.Bracket.the-variants as brackets
 use Rattle.reading.proofs.Parts.{Joined, join, joining, inside, openingByte, closingByte}
-use Rattle.reading.proofs.Rules.{Stop, broken, deep, Result, got, stopped, NotAt, atomBytes, termBytes, NoSecond, NoDigit, LabelReads, StarsRead}
+use Rattle.reading.proofs.Rules.{Stop, broken, deep, Result, got, stopped, NotAt, atomBytes, termBytes, NoSecond, NoDigit}
+use Rattle.reading.proofs.Rules.{LabelReads, StarsRead}
 use Rattle.reading.proofs.Rules.{ChainReads, starts, start-stops, GoesOn, joined, joined-stops, ends}
 use Rattle.reading.proofs.Rules.{LinkReads, sequence, item, item-stops, conjunction, exclamation, exclamation-stops}
 use Rattle.reading.proofs.Rules.{letter-t, letter-f, hash, hash-stops, curly, a-path, a-path-stops}
@@ -75,8 +76,8 @@ secondDigit d low high (c ∷ b) =
     fits : (c e : ℕ) → c ≡ 48 + e → e ≤ 9 → Reading (LabelReads ((48 + d) ∷ c ∷ b))
     fits c e same small =
         elim (decLe (10 * d + e) 64) [
-          | yes l ↦ read (got (10 * d + e) b) (subst (λ (x : ℕ). LabelReads ((48 + d) ∷ x ∷ b) (got (10 * d + e) b)) (sym same) (LabelReads.two-digits low small l))
-          | no n ↦ read (got d (c ∷ b)) (subst (λ (x : ℕ). LabelReads ((48 + d) ∷ x ∷ b) (got d (x ∷ b))) (sym same) (LabelReads.one-digit low high (NoSecond.too-large small (omega arith))))
+          | yes l ↦ read (got (10 * d + e) b) (rw same (LabelReads.two-digits low small l))
+          | no n ↦ read (got d (c ∷ b)) (rw same (LabelReads.one-digit low high (NoSecond.too-large small (omega arith))))
         ]
 
 readLabel : (b : Bytes) → Reading (LabelReads b)
@@ -97,22 +98,25 @@ readStars : (k : ℕ) (p : Path) (b : Bytes) → Reading (StarsRead p b)
 readStars zero p b = no-steps
 readStars (suc k) p b =
     ⊎-elim
-    (λ (more, e). carry (λ r d. subst (λ (x : Bytes). StarsRead p x r) (sym e) (StarsRead.one-more d)) (readStars k (star p) more))
+    (λ (more, e). carry (λ r d. rw e (StarsRead.one-more d)) (readStars k (star p) more))
     (λ n. read (got p b) (StarsRead.no-more n))
     (nextIs 42 b)
 
 -- the first byte is x, or it is not
-atByte : {A : Type 0} (P : Bytes → Result A → Type 0) (x c : ℕ) (b : Bytes) → (x ≡ x → Reading (P (x ∷ b))) → Reading (P (c ∷ b)) → Reading (P (c ∷ b))
+atByte : {A : Type 0} (P : Bytes → Result A → Type 0) (x c : ℕ) (b : Bytes) → (x ≡ x → Reading (P (x ∷ b))) → Reading (P (c ∷ b))
+    → Reading (P (c ∷ b))
 atByte P x c b here other = elim (ℕ-discrete x c) [ yes e ↦ subst (λ (y : ℕ). Reading (P (y ∷ b))) e (here refl) | no n ↦ other ]
 
 -- a path as a term
-pathAsTerm : {limit n : ℕ} {b : Bytes} → NotAt termBytes b → Reading (ChainReads limit chains.Path n b) → Reading (LinkReads limit chains.Conjunction n b)
+pathAsTerm : {limit n : ℕ} {b : Bytes} → NotAt termBytes b → Reading (ChainReads limit chains.Path n b)
+    → Reading (LinkReads limit chains.Conjunction n b)
 unfolding chain
 pathAsTerm off x = chain x (λ p more d. read (got (leads p) more) (a-path off d)) (λ s more d. read (stopped s more) (a-path-stops off d))
 
 module _ {limit n : ℕ} (k : Bracket) {o : ℕ} (e : o ≡ openingByte k) {b : Bytes} where
   -- what stands in a bracket is closed by the next byte, or it is not
-  closing : n < limit → (x : Joined (inside k)) (more : Bytes) → ChainReads limit (inside k) (suc n) b (got x more) → Reading (BracketReads limit k n (o ∷ b))
+  closing : n < limit → (x : Joined (inside k)) (more : Bytes) → ChainReads limit (inside k) (suc n) b (got x more)
+      → Reading (BracketReads limit k n (o ∷ b))
   closing l x [] d = read (stopped broken []) (stays-open e l d NotAt.ended)
   closing l x (c ∷ more) d =
       elim (ℕ-discrete c (closingByte k)) [
@@ -136,7 +140,8 @@ module _ (limit : ℕ) where
     readChain : (c : Chain) (k n : ℕ) (b : Bytes) → Reading (ChainReads limit c n b)
     readChain c zero n b = no-steps
     readChain c (suc k) n b =
-        chain (readLink c k n b) (λ x more d. carry (λ r e. starts d e) (goOn c k n x more)) (λ s more d. read (stopped s more) (start-stops d))
+        chain (readLink c k n b) (λ x more d. carry (λ r e. starts d e) (goOn c k n x more))
+        (λ s more d. read (stopped s more) (start-stops d))
 
     goOn : (c : Chain) (k n : ℕ) (x : Joined c) (b : Bytes) → Reading (GoesOn limit c n x b)
     goOn c zero n x b = no-steps
@@ -159,7 +164,8 @@ module _ (limit : ℕ) where
     readLink chains.Conjunction (suc k) n [] = pathAsTerm NotAt.ended (readChain chains.Path k n [])
     readLink chains.Conjunction (suc k) n (c ∷ b) =
         atByte (LinkReads limit chains.Conjunction n) 33 c b
-        (λ e. chain (readLink chains.Conjunction k n b) (λ f more d. read (got (not f) more) (exclamation d)) (λ s more d. read (stopped s more) (exclamation-stops d)))
+        (λ e. chain (readLink chains.Conjunction k n b) (λ f more d. read (got (not f) more) (exclamation d))
+        (λ s more d. read (stopped s more) (exclamation-stops d)))
         (atByte (LinkReads limit chains.Conjunction n) 116 c b (λ e. read (got always b) letter-t)
         (atByte (LinkReads limit chains.Conjunction n) 102 c b (λ e. read (got never b) letter-f)
         (atByte (LinkReads limit chains.Conjunction n) 35 c b

@@ -14,7 +14,10 @@ use Rattle.text.specs.Grammar.{PathText}
 use Rattle.reading.proofs.Rules.{got}
 use Rattle.reading.proofs.Follows.{text-read}
 use Rattle.reading.proofs.NextByte.{digit-opens-nothing, digit-closes-nothing}
-use Rattle.reading.proofs.Machine.{PathPlace, top, in-round, in-filter, FilterPlace, in-square, in-curly, State, start, item, item-read, term, term-read, hash, label, Offers, nothing, ends, on, digit, Digit, dec-digit, Next, stuck, goes, finished, look, ons, atoms, offer, depth, path-depth, filter-depth, Moves, stays, moves}
+use Rattle.reading.proofs.Machine.{PathPlace, top, in-round, in-filter, FilterPlace, in-square, in-curly, State, start, item}
+use Rattle.reading.proofs.Machine.{item-read, term, term-read, hash, label, Offers, nothing, ends, on, digit, Digit, dec-digit, Next}
+use Rattle.reading.proofs.Machine.{stuck, goes, finished, look, ons, atoms, offer, depth, path-depth, filter-depth, Moves, stays}
+use Rattle.reading.proofs.Machine.{moves}
 use Rattle.reading.proofs.Machine.{behind-filter, behind-term, behind-path}
 use Rattle.reading.proofs.Led.{Led, led, led-chain}
 
@@ -99,7 +102,8 @@ module _ (c d : ℕ) (b : Bytes) (τ : State) where
       go more false q = more (rw (q, look) at e)
   look-balanced (digit l f rest) h e = go (look-balanced rest (h .1)) (dec-digit l c) refl
     where
-      go : (look rest (c ∷ b) ≡ goes τ → opens c + d ≡ closes c + depth τ) → (y : Dec (Digit l c)) → dec-digit l c ≡ y → opens c + d ≡ closes c + depth τ
+      go : (look rest (c ∷ b) ≡ goes τ → opens c + d ≡ closes c + depth τ) → (y : Dec (Digit l c)) → dec-digit l c ≡ y
+          → opens c + d ≡ closes c + depth τ
       go more (yes y) q =
           rw (← same-depth (rw (q, look) at e), h .0, weight opening c (digit-opens-nothing (y .least) (y .most)), weight closing c (digit-closes-nothing (y .least) (y .most)))
       go more (no n) q = more (rw (q, look) at e)
@@ -112,7 +116,8 @@ pub record Front (limit : ℕ) (σ : State) (b : Bytes) (τ : State) (more : Byt
   pub again : (rest : Bytes) → Moves limit σ (front ++ rest) τ rest
   pub balanced : howMany opening front + depth σ ≡ howMany closing front + depth τ
   -- no bracket is opened in it while `limit` are open
-  pub shallow : (k : ℕ) → k < length front → T (opening (getD front k 0)) → howMany opening (take k front) + depth σ < howMany closing (take k front) + limit
+  pub shallow : (k : ℕ) → k < length front → T (opening (getD front k 0))
+      → howMany opening (take k front) + depth σ < howMany closing (take k front) + limit
   pub low : depth σ ≤ limit → depth τ ≤ limit
 
 -- the bytes behind the next one do not matter
@@ -120,7 +125,8 @@ pub look-ahead : (o : Offers) (c : ℕ) (b rest : Bytes) → look o (c ∷ b) �
 look-ahead nothing c b rest = refl
 look-ahead (ends p) c b rest = refl
 look-ahead (on d σ o) c b rest = ap (λ (n : Next). elim (eqb c d) [ true ↦ goes σ | false ↦ n ]) (look-ahead o c b rest)
-look-ahead (digit l f o) c b rest = ap (λ (n : Next). elim (dec-digit l c) [ yes h ↦ goes (f (10 * l + (c - 48))) | no h ↦ n ]) (look-ahead o c b rest)
+look-ahead (digit l f o) c b rest =
+    ap (λ (n : Next). elim (dec-digit l c) [ yes h ↦ goes (f (10 * l + (c - 48))) | no h ↦ n ]) (look-ahead o c b rest)
 
 -- no more than `limit` brackets are open behind a byte that opens none, or opens one while there is room
 rises : (c : ℕ) {d e limit : ℕ} → opens c + d ≡ closes c + e → (T (opening c) → d < limit) → d ≤ limit → e ≤ limit
@@ -133,7 +139,8 @@ rises c {d} {e} {limit} h l m = go (opening c) refl
 -- every run of moves passes over such bytes
 pub passes : {limit : ℕ} {σ τ : State} {b more : Bytes} → Moves limit σ b τ more → Front limit σ b τ more
 unfolding howMany
-passes {limit} {σ} stays = record { front = []; splits = refl; again = λ rest. stays; balanced = refl; shallow = λ k l t. absurd (omega arith); low = λ h. h }
+passes {limit} {σ} stays =
+    record { front = []; splits = refl; again = λ rest. stays; balanced = refl; shallow = λ k l t. absurd (omega arith); low = λ h. h }
 passes {limit} {σ} (moves {τ = τ} {ω = ω} {c = c} {b = b} {more = more} e l x) = go (passes x)
   where
     step : opens c + depth σ ≡ closes c + depth τ
@@ -150,7 +157,8 @@ passes {limit} {σ} (moves {τ = τ} {ω = ω} {c = c} {b = b} {more = more} e l
           low = λ h. f .low (rises c step l h);
         }
       where
-        room : (k : ℕ) → k < suc (length (f .front)) → T (opening (getD (c ∷ f .front) k 0)) → howMany opening (take k (c ∷ f .front)) + depth σ < howMany closing (take k (c ∷ f .front)) + limit
+        room : (k : ℕ) → k < suc (length (f .front)) → T (opening (getD (c ∷ f .front) k 0))
+            → howMany opening (take k (c ∷ f .front)) + depth σ < howMany closing (take k (c ∷ f .front)) + limit
         room zero m t = let h : depth σ < limit = l t in omega arith
         room (suc k) m t =
             let h = f .shallow k (omega arith) t in

@@ -2,7 +2,8 @@
 use Prim.Native.Nat.{ℕ, suc, _+_, _≤_, _<_}
 use native.Mathlib.Omega.{arith}
 use mathlib.Core.Path.{refl, sym}
-use mathlib.Core.List.{List, [], _∷_, _++_, append-nil, append-assoc, List·Memᴰ, List·Memᴰ·head, List·Memᴰ·tail, List·Memᴰ·not-nil, List·Memᴰ·eq-of-singleton, Memᴰ·cast}
+use mathlib.Core.List.{List, [], _∷_, _++_, append-nil, append-assoc, List·Memᴰ, List·Memᴰ·head, List·Memᴰ·tail, List·Memᴰ·not-nil}
+use mathlib.Core.List.{List·Memᴰ·eq-of-singleton, Memᴰ·cast}
 use lib.Dec.{T}
 use lib.ListN.{length, length-append}
 use Rattle.reply.specs.Bytes.{Bytes}
@@ -100,11 +101,13 @@ close-apart bracket.Square b = ((at-square, not-at tt), not-at tt)
 close-apart bracket.Round b = ((not-at tt, not-at tt), not-at tt)
 close-apart bracket.Curly b = ((at-curly, not-at tt), not-at tt)
 
--- A text of each kind is read as what it stands for, before any rest that is apart from it; where the rest may go on, reading goes on there.
+-- A text of each kind is read as what it stands for, before any rest that is apart from it; where the rest may go on, reading goes on
+-- there.
 module _ (limit : ℕ) where
   abbrev ChainFollowed : (c : Chain) → Bytes → Joined c → Type 0
   ChainFollowed c s x =
-      (n : ℕ) (more : Bytes) (r : Result (Joined c)) → n + length s ≤ limit → Apart c more → GoesOn limit c n x more r → ChainReads limit c n (s ++ more) r
+      (n : ℕ) (more : Bytes) (r : Result (Joined c)) → n + length s ≤ limit → Apart c more → GoesOn limit c n x more r
+      → ChainReads limit c n (s ++ more) r
 
   abbrev LinkFollowed : (c : Chain) → Bytes → Joined c → Type 0
   LinkFollowed c s x = (n : ℕ) (more : Bytes) → n + length s ≤ limit → Apart c more → LinkReads limit c n (s ++ more) (got x more)
@@ -119,7 +122,8 @@ module _ (limit : ℕ) where
   one-link : (c : Chain) (s : Bytes) (x : Joined c) → LinkFollowed c s x → ChainFollowed c s x
   one-link c s x h n more r l a z = starts (h n more l a) z
 
-  links : (c : Chain) (s u : Bytes) (x y : Joined c) → ChainFollowed c s x → LinkFollowed c u y → ChainFollowed c (s ++ joining c ∷ u) (join c x y)
+  links : (c : Chain) (s u : Bytes) (x y : Joined c) → ChainFollowed c s x → LinkFollowed c u y
+      → ChainFollowed c (s ++ joining c ∷ u) (join c x y)
   links c s u x y h k n more r l a z =
       let e = length-append s (joining c ∷ u) in
       rw append-assoc (h n (joining c ∷ u ++ more) r (omega arith) (joint-apart c (u ++ more)) (joined refl (k n more (omega arith) a) z))
@@ -148,8 +152,10 @@ module _ (limit : ℕ) where
   -- by induction over the grammar, all kinds at once
   path-followed : {s : Bytes} {p : Path} → PathText s p → ChainFollowed chain.Path s p
   path-followed x =
-      elim x as (λ s p y. ChainFollowed chain.Path s p) (λ s p y. ChainFollowed chain.Sequence s p) (λ s p y. ItemFollowed s p) (λ s p y. AtomFollowed s p)
-      (λ s f y. ChainFollowed chain.Filter s f) (λ s f y. ChainFollowed chain.Conjunction s f) (λ s f y. LinkFollowed chain.Conjunction s f) [
+      elim x as (λ s p y. ChainFollowed chain.Path s p) (λ s p y. ChainFollowed chain.Sequence s p)
+      (λ s p y. ItemFollowed s p) (λ s p y. AtomFollowed s p)
+      (λ s f y. ChainFollowed chain.Filter s f) (λ s f y. ChainFollowed chain.Conjunction s f)
+      (λ s f y. LinkFollowed chain.Conjunction s f) [
         | grammar.one-sequence {s = s} {p = p} (x → h) ↦ one-link chain.Path s p (sequence-link s p h)
         | grammar.bar {s = s} {u = u} {p = p} {q = q} (x → h) (y → k) ↦ links chain.Path s u p q h (sequence-link u q k)
         | grammar.one-item {s = s} {p = p} (x → h) ↦ one-link chain.Sequence s p (item-link s p h)

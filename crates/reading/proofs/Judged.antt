@@ -11,7 +11,7 @@ use Rattle.reply.specs.Bytes.{Bytes}
 use Rattle.query.specs.Syntax.{Path}
 use Rattle.text.specs.Grammar.{PathText}
 use Rattle.text.specs.Written.{tableOf}
-use Rattle.text.specs.Promise.{TextLength, Breaks, opening, closing, howMany, OneTooMany, Fits, TextFault, too-deep, TextOf}
+use Rattle.text.specs.Promise.{TextLength, Begins, Breaks, opening, closing, howMany, OneTooMany, Fits, TextFault, too-deep, TextOf}
 use Rattle.text.specs.Promise as promise
 use Rattle.reading.proofs.Rules.{Result, got, stopped, PathReads}
 use Rattle.reading.proofs.Rules as rules
@@ -36,13 +36,15 @@ module _ {text : Bytes} {τ : State} where
       let size : length text ≡ length (f .front) + length more = ap length (f .splits) ∙ length-append (f .front) more in
       let within : k < length (f .front) = omega arith in
       let same : take k text ≡ take k (f .front) = ap (take k) (f .splits) ∙ take-append-le k (f .front) more (omega arith) in
-      let byte : getD text k 0 ≡ getD (f .front) k 0 = ap (λ (b : Bytes). getD b k 0) (f .splits) ∙ List·getD-append (f .front) more 0 k within in
+      let byte : getD text k 0 ≡ getD (f .front) k 0 =
+      ap (λ (b : Bytes). getD b k 0) (f .splits) ∙ List·getD-append (f .front) more 0 k within in
       let already-open : howMany opening (take k (f .front)) ≡ howMany closing (take k (f .front)) + 32 = rw same at (o .already) in
       let room = f .shallow k within (rw byte at (o .bracket)) in
       omega arith
 
   -- a bracket met while 32 are open is one too many
-  one-too-many : {c : ℕ} {more : Bytes} → Moves 32 start text τ (c ∷ more) → T (opening c) → 32 ≤ depth τ → OneTooMany text (length text - suc (length more))
+  one-too-many : {c : ℕ} {more : Bytes} → Moves 32 start text τ (c ∷ more) → T (opening c) → 32 ≤ depth τ
+      → OneTooMany text (length text - suc (length more))
   one-too-many {c} {more} m o l =
       let f = passes m in
       let s : Bytes = f .front in
@@ -56,23 +58,31 @@ module _ {text : Bytes} {τ : State} where
 
 -- a text whose bracket is one too many goes on with it
 module _ {text : Bytes} where
-  not-broken : {p : Path} (u : Bytes) (c : ℕ) (t more : Bytes) → text ≡ u ++ c ∷ more → PathText (u ++ c ∷ t) p → (k : ℕ) → k ≤ length text - suc (length more) → ¬ Breaks text k
+  not-broken : {p : Path} (u : Bytes) (c : ℕ) (t more : Bytes) → text ≡ u ++ c ∷ more → PathText (u ++ c ∷ t) p → (k : ℕ)
+      → k ≤ length text - suc (length more) → ¬ Breaks text k
   not-broken {p} u c t more e x k l b =
       let size : length text ≡ length u + suc (length more) = ap length e ∙ length-append u (c ∷ more) in
-      ⊎-elim (λ h. omega arith) (λ h. h .1 (begins {p = p} (u ++ c ∷ []) t more (e ∙ sym (append-snoc u c more)) (rw append-snoc x) (suc k) (rw length-append (omega arith)))) (b .stops)
+      let begun : Begins (take (suc k) text) =
+      begins {p = p} (u ++ c ∷ []) t more (e ∙ sym (append-snoc u c more)) (rw append-snoc x) (suc k) (rw length-append (omega arith)) in
+      ⊎-elim (λ h. omega arith) (λ h. h .1 begun) (b .stops)
 
 -- What reading says of a text, by what it comes to.
 pub judged : {text : Bytes} {r : Result Path} → TextLength text → PathReads 32 0 text r → Judged text r
 judged {text} length-right x = go (heard x) (led-chain x top refl)
   where
-    got-some : {p : Path} {τ : State} (more : Bytes) → Span PathText text p more → Moves 32 start text τ more → Here τ (behind-path top p) more → Judged text (got p more)
-    got-some {p} [] v m h = read {p = p} (rw (v .splits, append-nil) (v .text)) (λ k o. let l : k < length text = o .within in none-before m k (omega arith) o)
-    got-some {p} (c ∷ more) v m h = not-whole (promise.breaks length-right (breaks {p = p} (v .front) [] m (h .now) (v .splits) (rw append-nil (v .text))) (none-before m))
+    got-some : {p : Path} {τ : State} (more : Bytes) → Span PathText text p more → Moves 32 start text τ more
+        → Here τ (behind-path top p) more → Judged text (got p more)
+    got-some {p} [] v m h =
+        read {p = p} (rw (v .splits, append-nil) (v .text)) (λ k o. let l : k < length text = o .within in none-before m k (omega arith) o)
+    got-some {p} (c ∷ more) v m h =
+        let place = breaks {p = p} (v .front) [] m (h .now) (v .splits) (rw append-nil (v .text)) in
+        not-whole (promise.breaks length-right place (none-before m))
 
     go : {r : Result Path} → Heard PathText text r → Led 32 start text (behind-path top) r → Judged text r
     go (whole v) (led {more = more} m h) = got-some more v m h
     go (begun u t e w a) (broke m h) = broken (promise.breaks length-right (breaks u t m (h .now) e w) (none-before m))
-    go (begun u t e w (bracket {c = c} {more = more} {t = t′})) (deepened m g o l) = deep (too-deep length-right (one-too-many m o l) (none-before m) (not-broken u c t′ more e w))
+    go (begun u t e w (bracket {c = c} {more = more} {t = t′})) (deepened m g o l) =
+        deep (too-deep length-right (one-too-many m o l) (none-before m) (not-broken u c t′ more e w))
 
 module _ {text : Bytes} {p : Path} (length-right : TextLength text) where
   -- a text that is read whole is one of its path, if its table fits

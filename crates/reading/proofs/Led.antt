@@ -22,7 +22,8 @@ use Rattle.reading.proofs.Rules.{BracketReads, closed, stays-open, insi
 use Rattle.reading.proofs.Rules as rules
 use Rattle.reading.proofs.NextByte.{unequal, equal, digit-opens-nothing}
 use Rattle.reading.proofs.Machine as machine
-use Rattle.reading.proofs.Machine.{PathPlace, FilterPlace, in-filter, State, label, Offers, nothing, on, digit, Digit, dec-digit, look, goes, offer}
+use Rattle.reading.proofs.Machine.{PathPlace, FilterPlace, in-filter, State, label, Offers, nothing, on, digit, Digit, dec-digit}
+use Rattle.reading.proofs.Machine.{look, goes, offer}
 use Rattle.reading.proofs.Machine.{ons, bytes, atoms, terms, depth, path-depth, Moves, stays, moves, behind-term, behind-item}
 use Rattle.reading.proofs.Around.{Around, wanted, behind-chain, behind-link, around-depth, Holder, held, outside, shut}
 use Rattle.reading.proofs.Around.{joint-opens-nothing, bracket-opens, opened, one-deeper, closes, close-opens-nothing}
@@ -36,7 +37,8 @@ pub record Here (σ : State) (offers : Offers) (b : Bytes) : Type 0 where
 pub data Led {A : Type 0} (limit : ℕ) (σ : State) (b : Bytes) (behind : A → Offers) : Result A → Type 0 where
   led : {τ : State} {x : A} {more : Bytes} → Moves limit σ b τ more → Here τ (behind x) more → Led limit σ b behind (got x more)
   broke : {τ : State} {more : Bytes} → Moves limit σ b τ more → Here τ nothing more → Led limit σ b behind (stopped broken more)
-  deepened : {τ ω : State} {c : ℕ} {more : Bytes} → Moves limit σ b τ (c ∷ more) → look (offer τ) (c ∷ more) ≡ goes ω → T (opening c) → limit ≤ depth τ → Led limit σ b behind (stopped deep (c ∷ more))
+  deepened : {τ ω : State} {c : ℕ} {more : Bytes} → Moves limit σ b τ (c ∷ more) → look (offer τ) (c ∷ more) ≡ goes ω → T (opening c)
+      → limit ≤ depth τ → Led limit σ b behind (stopped deep (c ∷ more))
 
 -- a byte that is not next is passed over
 skip : {c : ℕ} {these : List ℕ} {b : Bytes} (σ : State) (o : Offers) → NotAt (c ∷ these) b → look (on c σ o) b ≡ look o b
@@ -58,7 +60,8 @@ skip-all [] o h = refl
 skip-all (x ∷ l) o h = skip (x .1) (ons l o) h ∙ skip-all l o (not-at-rest h)
 
 -- a digit that makes a label is taken
-digit-taken : (l e : ℕ) (b : Bytes) (f : ℕ → State) (o : Offers) → e ≤ 9 → 1 ≤ 10 * l + e → 10 * l + e ≤ 64 → look (digit l f o) ((48 + e) ∷ b) ≡ goes (f (10 * l + e))
+digit-taken : (l e : ℕ) (b : Bytes) (f : ℕ → State) (o : Offers) → e ≤ 9 → 1 ≤ 10 * l + e → 10 * l + e ≤ 64
+    → look (digit l f o) ((48 + e) ∷ b) ≡ goes (f (10 * l + e))
 digit-taken l e b f o h k m = go (dec-digit l (48 + e)) refl
   where
     value : 48 + e - 48 ≡ e
@@ -128,7 +131,8 @@ module _ {limit : ℕ} where
   onwards (moves e l x) y = moves e l (onwards x y)
 
   -- a move from a state that takes the same
-  instead : {σ τ ω υ : State} {c : ℕ} {b more : Bytes} → Alike σ τ (c ∷ b) → look (offer σ) (c ∷ b) ≡ goes ω → (T (opening c) → depth σ < limit) → Moves limit ω b υ more
+  instead : {σ τ ω υ : State} {c : ℕ} {b more : Bytes} → Alike σ τ (c ∷ b) → look (offer σ) (c ∷ b) ≡ goes ω
+      → (T (opening c) → depth σ < limit) → Moves limit ω b υ more
       → Moves limit τ (c ∷ b) υ more
   instead {τ = τ} s e l y = moves {σ = τ} (s .takes .now ∙ e) (λ o. rw (s .depths) (l o)) y
 
@@ -140,7 +144,8 @@ module _ {limit : ℕ} where
     moved x (deepened y e o l) = deepened (onwards x y) e o l
 
     -- a result behind one byte
-    first : {σ τ : State} {c : ℕ} {b : Bytes} {r : Result A} → look (offer σ) (c ∷ b) ≡ goes τ → (T (opening c) → depth σ < limit) → Led limit τ b behind r → Led limit σ (c ∷ b) behind r
+    first : {σ τ : State} {c : ℕ} {b : Bytes} {r : Result A} → look (offer σ) (c ∷ b) ≡ goes τ → (T (opening c) → depth σ < limit)
+        → Led limit τ b behind r → Led limit σ (c ∷ b) behind r
     first e l x = moved (moves e l stays) x
 
     -- two states that take the same
@@ -154,7 +159,8 @@ module _ {limit : ℕ} where
 
   module _ {A B : Type 0} {behind : A → Offers} {further : B → Offers} where
     -- something is got, and reading goes on from there
-    further-on : {σ : State} {b more : Bytes} {x : A} {r : Result B} → Led limit σ b behind (got x more) → ((τ : State) → Here τ (behind x) more → Led limit τ more further r) → Led limit σ b further r
+    further-on : {σ : State} {b more : Bytes} {x : A} {r : Result B} → Led limit σ b behind (got x more)
+        → ((τ : State) → Here τ (behind x) more → Led limit τ more further r) → Led limit σ b further r
     further-on (led {τ = τ} y h) f = moved y (f τ h)
 
     -- a stop is a stop of what is around it
@@ -163,19 +169,25 @@ module _ {limit : ℕ} where
     stop (deepened y e o l) = deepened y e o l
 
   -- a label's digits lead behind the term
-  led-label : {b : Bytes} {r : Result ℕ} → LabelReads b r → (o a : Filter → Filter) (F : FilterPlace) → Led limit (machine.hash o a F) b (λ l. behind-term o F (a (syntax.labelled l))) r
+  led-label : {b : Bytes} {r : Result ℕ} → LabelReads b r → (o a : Filter → Filter) (F : FilterPlace)
+      → Led limit (machine.hash o a F) b (λ l. behind-term o F (a (syntax.labelled l))) r
   led-label (one-digit {d = d} {b = b} l h s) o a F =
       let taken = digit-taken 0 d b (λ l. label l o a F) nothing h (omega arith) (omega arith) in
-      led (moves (rw zero-add at taken) (quiet d h) stays) (record { now = digit-skipped (λ m. label m o a F) (behind-term o F (a (syntax.labelled d))) (second-digit s); at-end = refl })
+      led (moves (rw zero-add at taken) (quiet d h) stays)
+      (record { now = digit-skipped (λ m. label m o a F) (behind-term o F (a (syntax.labelled d))) (second-digit s); at-end = refl })
   led-label (two-digits {d = d} {e = e} {b = b} l h m) o a F =
       let taken = digit-taken 0 d ((48 + e) ∷ b) (λ l. label l o a F) nothing (omega arith) (omega arith) (omega arith) in
       let taken-too = digit-taken d e b (λ l. label l o a F) (behind-term o F (a (syntax.labelled d))) h (omega arith) m in
       led (moves (rw zero-add at taken) (quiet d (omega arith)) (moves taken-too (quiet e h) stays))
-      (record { now = digit-skipped (λ m. label m o a F) (behind-term o F (a (syntax.labelled (10 * d + e)))) (third-digit (omega arith) b); at-end = refl })
+      (record {
+        now = digit-skipped (λ m. label m o a F) (behind-term o F (a (syntax.labelled (10 * d + e)))) (third-digit (omega arith) b);
+        at-end = refl;
+      })
   led-label (no-digit h) o a F = broke stays (record { now = digit-skipped (λ l. label l o a F) nothing (first-digit h); at-end = refl })
 
   -- stars behind an item
-  led-stars : {p : Path} {b : Bytes} {r : Result Path} → StarsRead p b r → (e t : Path → Path) (P : PathPlace) (σ : State) → Here σ (offer (machine.item-read e t P p)) b
+  led-stars : {p : Path} {b : Bytes} {r : Result Path} → StarsRead p b r → (e t : Path → Path) (P : PathPlace) (σ : State)
+      → Here σ (offer (machine.item-read e t P p)) b
       → Led limit σ b (λ q. behind-item e P (t q)) r
   unfolding opening
   led-stars (one-more x) e t P σ h = first (h .now) absurd (led-stars x e t P _ here)
@@ -190,7 +202,8 @@ module _ {limit : ℕ} where
 
   module _ {A : Type 0} {behind : A → Offers} {r : Result A} {b : Bytes} where
     -- a result behind a byte that is offered first, and opens no bracket
-    offered : {σ τ : State} {c d : ℕ} {o : Offers} → c ≡ d → ¬ T (opening d) → Here σ (on d τ o) (c ∷ b) → Led limit τ b behind r → Led limit σ (c ∷ b) behind r
+    offered : {σ τ : State} {c d : ℕ} {o : Offers} → c ≡ d → ¬ T (opening d) → Here σ (on d τ o) (c ∷ b) → Led limit τ b behind r
+        → Led limit σ (c ∷ b) behind r
     offered {τ = τ} {o = o} e quiet h y = first (h .now ∙ taken τ o b e) (λ t. absurd (quiet (rw e at t))) y
 
     -- a result behind the byte that opens a bracket, where one may be opened
@@ -202,12 +215,14 @@ module _ {limit : ℕ} where
   mutual
     unfolding opening
 
-    pub led-chain : {c : Chain} {n : ℕ} {b : Bytes} {r : Result (Joined c)} → ChainReads limit c n b r → (a : Around c) → around-depth c a ≡ n
+    pub led-chain : {c : Chain} {n : ℕ} {b : Bytes} {r : Result (Joined c)} → ChainReads limit c n b r → (a : Around c)
+        → around-depth c a ≡ n
         → Led limit (wanted c a (λ x. x)) b (behind-chain c a) r
     led-chain (starts {c = c} x y) a d = further-on (led-link x a (λ x. x) d) (λ σ h. led-on y a d σ h)
     led-chain (start-stops x) a d = stop (led-link x a (λ x. x) d)
 
-    led-on : {c : Chain} {n : ℕ} {x : Joined c} {b : Bytes} {r : Result (Joined c)} → GoesOn limit c n x b r → (a : Around c) → around-depth c a ≡ n
+    led-on : {c : Chain} {n : ℕ} {x : Joined c} {b : Bytes} {r : Result (Joined c)} → GoesOn limit c n x b r → (a : Around c)
+        → around-depth c a ≡ n
         → (σ : State) → Here σ (behind-link c a x) b → Led limit σ b (behind-chain c a) r
     led-on (joined {c = c} {x = x} e y z) a d σ h =
         offered e (joint-opens-nothing c) h (further-on (led-link y a (λ q. join c x q) d) (λ τ k. led-on z a d τ k))
@@ -245,8 +260,12 @@ module _ {limit : ℕ} where
     led-bracket : {k : Bracket} {n : ℕ} {b : Bytes} {r : Result (Joined (inside k))} → BracketReads limit k n b r → (h : Holder k)
         → depth (outside k h) ≡ n → Led limit (outside k h) b (λ x. offer (shut k h x)) r
     led-bracket (closed {k = k} e l x f) h d =
-        entered k h e (rw d l) (further-on (led-chain x (held k h) (one-deeper k h ∙ ap suc d)) (λ σ i. offered f (close-opens-nothing k) (rw (closes k h) at i) (led stays here)))
+        entered k h e (rw d l)
+        (further-on (led-chain x (held k h) (one-deeper k h ∙ ap suc d))
+        (λ σ i. offered f (close-opens-nothing k) (rw (closes k h) at i) (led stays here)))
     led-bracket (stays-open {k = k} e l x j) h d =
-        entered k h e (rw d l) (further-on (led-chain x (held k h) (one-deeper k h ∙ ap suc d)) (λ σ i. broke stays (passed j (rw (closes k h) at i))))
+        entered k h e (rw d l)
+        (further-on (led-chain x (held k h) (one-deeper k h ∙ ap suc d)) (λ σ i. broke stays (passed j (rw (closes k h) at i))))
     led-bracket (inside-stops {k = k} e l x) h d = entered k h e (rw d l) (stop (led-chain x (held k h) (one-deeper k h ∙ ap suc d)))
-    led-bracket (too-deep {k = k} {b = b} e l) h d = deepened {ω = wanted (inside k) (held k h) (λ x. x)} stays (rw e (opened k h b)) (rw e (bracket-opens k)) (rw d l)
+    led-bracket (too-deep {k = k} {b = b} e l) h d =
+        deepened {ω = wanted (inside k) (held k h) (λ x. x)} stays (rw e (opened k h b)) (rw e (bracket-opens k)) (rw d l)

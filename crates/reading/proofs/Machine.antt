@@ -13,7 +13,8 @@ use Rattle.text.specs.Promise.{opening}
 
 mutual
   -- Where a path stands: alone, in round brackets as an atom of a path, or as a term of a filter.
-  -- In a path two functions say what is made of an item: a sequence, and of this the path. In a filter they make a conjunction of a term, and of this the filter.
+  -- In a path two functions say what is made of an item: a sequence, and of this the path. In a filter they make a conjunction of a term,
+  -- and of this the filter.
   pub data PathPlace : Type 0 where
     top : PathPlace
     in-round : (Path → Path) → (Path → Path) → PathPlace → PathPlace
@@ -24,7 +25,8 @@ mutual
     in-square : (Path → Path) → (Path → Path) → PathPlace → FilterPlace
     in-curly : (Filter → Filter) → (Filter → Filter) → FilterPlace → FilterPlace
 
--- An item is wanted, or has been read; a term is wanted, or has been read as part of a conjunction; a label is wanted, or has been read so far.
+-- An item is wanted, or has been read; a term is wanted, or has been read as part of a conjunction; a label is wanted, or has been read so
+-- far.
 pub data State : Type 0 where
   item : (Path → Path) → (Path → Path) → PathPlace → State
   item-read : (Path → Path) → (Path → Path) → PathPlace → Path → State
@@ -166,4 +168,5 @@ start = item (λ p. p) (λ p. p) top
 -- From one state and unread text the machine comes to others, and opens no bracket while `limit` are open.
 pub data Moves (limit : ℕ) : State → Bytes → State → Bytes → Type 0 where
   stays : {σ : State} {b : Bytes} → Moves limit σ b σ b
-  moves : {σ τ ω : State} {c : ℕ} {b more : Bytes} → look (offer σ) (c ∷ b) ≡ goes τ → (T (opening c) → depth σ < limit) → Moves limit τ b ω more → Moves limit σ (c ∷ b) ω more
+  moves : {σ τ ω : State} {c : ℕ} {b more : Bytes} → look (offer σ) (c ∷ b) ≡ goes τ → (T (opening c) → depth σ < limit)
+      → Moves limit τ b ω more → Moves limit σ (c ∷ b) ω more

@@ -45,8 +45,10 @@ equal c = go (eqb c c) (eqb-refl c)
 module _ {c : ℕ} (least : 48 ≤ c) (most : c ≤ 57) where
   pub digit-opens-nothing : opening c ≡ false
   unfolding opening
-  digit-opens-nothing = rw (unequal {c = c} {d = 40} (omega arith), unequal {c = c} {d = 91} (omega arith), unequal {c = c} {d = 123} (omega arith))
+  digit-opens-nothing =
+      rw (unequal {c = c} {d = 40} (omega arith), unequal {c = c} {d = 91} (omega arith), unequal {c = c} {d = 123} (omega arith))
 
   pub digit-closes-nothing : closing c ≡ false
   unfolding closing
-  digit-closes-nothing = rw (unequal {c = c} {d = 41} (omega arith), unequal {c = c} {d = 93} (omega arith), unequal {c = c} {d = 125} (omega arith))
+  digit-closes-nothing =
+      rw (unequal {c = c} {d = 41} (omega arith), unequal {c = c} {d = 93} (omega arith), unequal {c = c} {d = 125} (omega arith))

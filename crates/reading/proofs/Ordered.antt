@@ -2,14 +2,14 @@
 use Prim.Native.Nat.{ℕ, _+_, _-_, _≤_, _<_}
 use native.Mathlib.Nat.{zero-add}
 use native.Mathlib.Omega.{arith}
-use mathlib.Core.Path.{_≡_, refl, sym, subst}
-use mathlib.Core.Bool.{Bool, false}
+use mathlib.Core.Path.{_≡_, refl, subst}
+use mathlib.Core.Bool.{false}
 use mathlib.Core.List.{[], _∷_, _++_, append-assoc}
 use mathlib.Core.Option.{some}
 use lib.ListN.{length, length-append}
 use Rattle.reply.specs.Bytes.{Bytes}
 use Rattle.tree.specs.Tree.{Label}
-use Rattle.query.specs.Kind.{Sort, path, filter, Operand, unused, of, Row, find, kinds, rowOf}
+use Rattle.query.specs.Kind.{Sort, path, filter, unused, of, Row, find, kinds, rowOf}
 use Rattle.query.specs.Syntax.{Path}
 use Rattle.query.specs.Table.{Entry, Entries, HasSort, LabelField, OperandField, EntryRight}
 use Rattle.query.proofs.Appended.{AllRight, both-right, sort-kept, sort-at-end, right-at-end}
@@ -31,7 +31,8 @@ record Ordered (before es : Entries) (s : Sort) : Type 0 where
 module _ {before es : Entries} where
   -- one more entry
   closed : (e : Entry) (row : Row) → rowOf (e .kind) ≡ some row → AllRight before es → LabelField (row .label) (e .label)
-      → OperandField (before ++ es) (length (before ++ es)) (row .left) (e .left) → OperandField (before ++ es) (length (before ++ es)) (row .right) (e .right)
+      → OperandField (before ++ es) (length (before ++ es)) (row .left) (e .left)
+      → OperandField (before ++ es) (length (before ++ es)) (row .right) (e .right)
       → Ordered before (es ++ e ∷ []) (row .sort)
   closed e row listed all label left right =
       let size = length-append before es in
@@ -56,27 +57,32 @@ none-right = record { each = λ i l h. absurd (omega arith) }
 -- An entry of a kind with a row, without operands, behind one operand, and behind two.
 module _ (before : Entries) (kind : ℕ) {row : Row} (listed : rowOf kind ≡ some row) where
   -- without operands
-  alone : {label : ℕ} → row .left ≡ unused → row .right ≡ unused → LabelField (row .label) label → Ordered before (record { kind = kind; label = label; left = 0; right = 0 } ∷ []) (row .sort)
+  alone : {label : ℕ} → row .left ≡ unused → row .right ≡ unused → LabelField (row .label) label
+      → Ordered before (record { kind = kind; label = label; left = 0; right = 0 } ∷ []) (row .sort)
   unfolding OperandField
   alone {label = label} l r used =
       closed (record { kind = kind; label = label; left = 0; right = 0 }) row listed none-right used
-      (subst (λ (o : Operand). OperandField (before ++ []) (length (before ++ [])) o 0) (sym l) refl) (subst (λ (o : Operand). OperandField (before ++ []) (length (before ++ [])) o 0) (sym r) refl)
+      (rw l refl)
+      (rw r refl)
 
   -- behind one
   behind-one : {s : Sort} {es : Entries} → row .left ≡ of s → row .right ≡ unused → row .label ≡ false → Ordered before es s
       → Ordered before (es ++ record { kind = kind; label = 0; left = length before + length es - 1; right = 0 } ∷ []) (row .sort)
   unfolding OperandField LabelField
   behind-one {es = es} l r b o =
-      closed (record { kind = kind; label = 0; left = length before + length es - 1; right = 0 }) row listed (o .all) (subst (λ (u : Bool). LabelField u 0) (sym b) refl)
-      (subst (λ (d : Operand). OperandField (before ++ es) (length (before ++ es)) d (length before + length es - 1)) (sym l) (operand o))
-      (subst (λ (d : Operand). OperandField (before ++ es) (length (before ++ es)) d 0) (sym r) refl)
+      closed (record { kind = kind; label = 0; left = length before + length es - 1; right = 0 }) row listed (o .all)
+      (rw b refl)
+      (rw l (operand o))
+      (rw r refl)
 
   -- behind two
-  behind-two : {s u : Sort} {es fs : Entries} → row .left ≡ of s → row .right ≡ of u → row .label ≡ false → Ordered before es s → Ordered (before ++ es) fs u
+  behind-two : {s u : Sort} {es fs : Entries} → row .left ≡ of s → row .right ≡ of u → row .label ≡ false → Ordered before es s
+      → Ordered (before ++ es) fs u
       → Ordered before (es ++ (fs ++ record { kind = kind; label = 0; left = length before + length es - 1; right = length before + length es + length fs - 1 } ∷ [])) (row .sort)
   unfolding OperandField LabelField
   behind-two {s = s} {u = u} {es = es} {fs = fs} l r b o q =
-      let e : Entry = record { kind = kind; label = 0; left = length before + length es - 1; right = length before + length es + length fs - 1 } in
+      let e : Entry =
+      record { kind = kind; label = 0; left = length before + length es - 1; right = length before + length es + length fs - 1 } in
       let table : Entries = before ++ (es ++ fs) in
       let group : (before ++ es) ++ fs ≡ table = append-assoc before es fs in
       let size = length-append before es in
@@ -86,33 +92,38 @@ module _ (before : Entries) (kind : ℕ) {row : Row} (listed : rowOf kind ≡ so
       let c = q .some in
       let place : length (before ++ es) + length fs - 1 ≡ length before + length es + length fs - 1 = omega arith in
       let left : HasSort table (length before + length es - 1) s =
-      subst (λ (t : Entries). HasSort t (length before + length es - 1) s) group (sort-kept (before ++ es) fs (length before + length es - 1) (omega arith) (o .last)) in
+      subst (λ (t : Entries). HasSort t (length before + length es - 1) s) group
+      (sort-kept (before ++ es) fs (length before + length es - 1) (omega arith) (o .last)) in
       let right : HasSort table (length before + length es + length fs - 1) u =
-      subst (λ (t : Entries). HasSort t (length before + length es + length fs - 1) u) group (subst (λ (i : ℕ). HasSort ((before ++ es) ++ fs) i u) place (q .last)) in
+      subst (λ (t : Entries). HasSort t (length before + length es + length fs - 1) u) group
+      (subst (λ (i : ℕ). HasSort ((before ++ es) ++ fs) i u) place (q .last)) in
       subst (λ (all : Entries). Ordered before all (row .sort)) (append-assoc es fs (e ∷ []))
-      (closed {before = before} {es = es ++ fs} e row listed (both-right (o .all) (q .all)) (subst (λ (w : Bool). LabelField w 0) (sym b) refl)
-      (subst (λ (d : Operand). OperandField table (length table) d (e .left)) (sym l) (omega arith, left))
-      (subst (λ (d : Operand). OperandField table (length table) d (e .right)) (sym r) (omega arith, right)))
+      (closed {before = before} {es = es ++ fs} e row listed (both-right (o .all) (q .all)) (rw b refl)
+      (rw l (omega arith, left))
+      (rw r (omega arith, right)))
 
 -- Behind any entries, what is written for x is in order.
 abbrev InOrder : {A : Type 0} → (ℕ → A → Entries) → Sort → A → Type 0
 InOrder written s x = (before : Entries) → Ordered before (written (length before) x) s
 
 -- two things that are joined
-joined : {A : Type 0} (written : ℕ → A → Entries) {s : Sort} (kind : ℕ) {row : Row} (x y : A) → rowOf kind ≡ some row → row .left ≡ of s → row .right ≡ of s → row .label ≡ false
+joined : {A : Type 0} (written : ℕ → A → Entries) {s : Sort} (kind : ℕ) {row : Row} (x y : A) → rowOf kind ≡ some row → row .left ≡ of s
+    → row .right ≡ of s → row .label ≡ false
     → InOrder written s x → InOrder written s y → (before : Entries)
     → let es : Entries = written (length before) x in
     let m : ℕ = length before + length es in
     Ordered before (es ++ (written m y ++ record { kind = kind; label = 0; left = m - 1; right = m + length (written m y) - 1 } ∷ [])) (row .sort)
 joined written {s = s} kind x y listed l r b h k before =
     let es : Entries = written (length before) x in
-    behind-two before kind listed l r b (h before) (subst (λ (m : ℕ). Ordered (before ++ es) (written m y) s) (length-append before es) (k (before ++ es)))
+    behind-two before kind listed l r b (h before)
+    (subst (λ (m : ℕ). Ordered (before ++ es) (written m y) s) (length-append before es) (k (before ++ es)))
 
 -- by induction over the grammar, all kinds at once
 path-ordered : {s : Bytes} {p : Path} → PathText s p → InOrder pathEntries path p
 unfolding pathEntries find kinds LabelField
 path-ordered x =
-    elim x as (λ s p y. InOrder pathEntries path p) (λ s p y. InOrder pathEntries path p) (λ s p y. InOrder pathEntries path p) (λ s p y. InOrder pathEntries path p)
+    elim x as (λ s p y. InOrder pathEntries path p) (λ s p y. InOrder pathEntries path p)
+    (λ s p y. InOrder pathEntries path p) (λ s p y. InOrder pathEntries path p)
     (λ s f y. InOrder filterEntries filter f) (λ s f y. InOrder filterEntries filter f) (λ s f y. InOrder filterEntries filter f) [
       | grammar.one-sequence (x → h) ↦ h
       | grammar.bar {p = p} {q = q} (x → h) (y → k) ↦ joined pathEntries 8 p q refl refl refl refl h k

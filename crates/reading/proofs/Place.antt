@@ -1,4 +1,5 @@
--- The place of a text that breaks: where reading stops at a byte that the grammar does not take, no text begins so, and before it one does. Assumes nothing.
+-- The place of a text that breaks: where reading stops at a byte that the grammar does not take, no text begins so, and before it one does.
+-- Assumes nothing.
 use Prim.Native.Nat.{ℕ, suc, _+_, _-_, _≤_, _<_}
 use native.Mathlib.Omega.{arith}
 use mathlib.Core.Path.{_≡_, refl, sym, ap, _∙_}
@@ -46,7 +47,8 @@ path-unique text p q x y =
     cc
 
 -- what is begun begins as far as it goes
-pub begins : {text : Bytes} {p : Path} (u t more : Bytes) → text ≡ u ++ more → PathText (u ++ t) p → (k : ℕ) → k ≤ length u → Begins (take k text)
+pub begins : {text : Bytes} {p : Path} (u t more : Bytes) → text ≡ u ++ more → PathText (u ++ t) p → (k : ℕ) → k ≤ length u
+    → Begins (take k text)
 unfolding Begins
 begins {text} {p} u t more e x k l = (drop k u ++ t, p, rw (e, take-append-le k u more l, ← append-assoc, take-append-drop) x)
 
@@ -69,11 +71,13 @@ module _ {limit : ℕ} {τ : State} where
       let long : length text ≡ length s + suc (length rest) = ap length (f .splits) ∙ length-append s (c ∷ rest) in
       let i : ℕ = length text - suc (length rest) in
       let size : length (s ++ c ∷ []) ≡ suc i = omega (arith, length-append s (c ∷ [])) in
-      let next : take (suc i) text ≡ s ++ c ∷ [] = ap (take (suc i)) (f .splits ∙ sym (append-snoc s c rest)) ∙ take-at (s ++ c ∷ []) rest (suc i) size in
+      let next : take (suc i) text ≡ s ++ c ∷ [] =
+      ap (take (suc i)) (f .splits ∙ sym (append-snoc s c rest)) ∙ take-at (s ++ c ∷ []) rest (suc i) size in
       inr (omega arith, λ b. stuck-no-path (f .again (c ∷ b .0)) (look-ahead (offer τ) c (b .0) rest ∙ e) (b .1) (rw (next, append-assoc) at (b .2)))
 
   -- The machine is stuck, and what it has passed over begins a text: this is the place.
-  pub breaks : {text more : Bytes} {p : Path} (u t : Bytes) → Moves limit start text τ more → look (offer τ) more ≡ stuck → text ≡ u ++ more → PathText (u ++ t) p → Breaks text (length text - length more)
+  pub breaks : {text more : Bytes} {p : Path} (u t : Bytes) → Moves limit start text τ more → look (offer τ) more ≡ stuck → text ≡ u ++ more
+      → PathText (u ++ t) p → Breaks text (length text - length more)
   breaks {text} {more} u t m e s x =
       let long : length text ≡ length u + length more = ap length s ∙ length-append u more in
       record { no-path = stuck-no-path m e; before = λ k l. begins u t more s x (suc k) (omega arith); stops = stuck-stops text more m e }

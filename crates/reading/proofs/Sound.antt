@@ -1,4 +1,5 @@
--- What the rules of reading get is what a text of the grammar stands for, and what they read before a stop begins such a text. Assumes nothing.
+-- What the rules of reading get is what a text of the grammar stands for, and what they read before a stop begins such a text. Assumes
+-- nothing.
 use Prim.Native.Nat.{ℕ, _+_}
 use native.Mathlib.Omega.{arith}
 use mathlib.Core.Path.{_≡_, refl, ap}
@@ -61,7 +62,8 @@ module _ {A : Type 0} {X : Bytes → A → Type 0} where
     lift f v = record { front = v .front; splits = v .splits; text = f (v .front) (v .text) }
 
     -- and so where reading stops
-    lift-stop : {b more : Bytes} {s : Stop} → ((u : Bytes) (x : A) → X u x → (y : B) × Y u y) → Heard X b (stopped s more) → Heard Y b (stopped s more)
+    lift-stop : {b more : Bytes} {s : Stop} → ((u : Bytes) (x : A) → X u x → (y : B) × Y u y) → Heard X b (stopped s more)
+        → Heard Y b (stopped s more)
     lift-stop f (begun {x = x} u t e w a) = begun u t e (f (u ++ t) x w .1) a
 
     -- a byte in front of a text
@@ -70,7 +72,8 @@ module _ {A : Type 0} {X : Bytes → A → Type 0} where
       ahead f v = record { front = c ∷ v .front; splits = ap (λ (l : Bytes). c ∷ l) (v .splits); text = f (v .front) (v .text) }
 
       -- and so where reading stops
-      ahead-stop : {b more : Bytes} {s : Stop} → ((u : Bytes) (x : A) → X u x → (y : B) × Y (c ∷ u) y) → Heard X b (stopped s more) → Heard Y (c ∷ b) (stopped s more)
+      ahead-stop : {b more : Bytes} {s : Stop} → ((u : Bytes) (x : A) → X u x → (y : B) × Y (c ∷ u) y) → Heard X b (stopped s more)
+          → Heard Y (c ∷ b) (stopped s more)
       ahead-stop f (begun {x = x} u t e w a) = begun (c ∷ u) t (ap (λ (l : Bytes). c ∷ l) e) (f (u ++ t) x w .1) a
 
 -- The texts of a chain, and of its links.
@@ -125,7 +128,11 @@ module _ (c : Chain) {j : ℕ} (e : j ≡ joining c) {b rest more : Bytes} {x : 
   -- a chain, its byte, and one more link
   link-on : {y : Joined c} → Span (LinkText c) rest y more → Span (ChainText c) b (join c x y) more
   link-on {y = y} w =
-      record { front = v .front ++ joining c ∷ w .front; splits = rw (v .splits, w .splits, e, append-assoc); text = links c (v .front) (w .front) x y (v .text) (w .text) }
+      record {
+        front = v .front ++ joining c ∷ w .front;
+        splits = rw (v .splits, w .splits, e, append-assoc);
+        text = links c (v .front) (w .front) x y (v .text) (w .text);
+      }
 
   -- and so where reading stops in that link
   link-stops : {s : Stop} → Heard (LinkText c) rest (stopped s more) → Heard (ChainText c) b (stopped s more)
@@ -135,9 +142,14 @@ module _ (c : Chain) {j : ℕ} (e : j ≡ joining c) {b rest more : Bytes} {x : 
 
 module _ (k : Bracket) {o : ℕ} (e : o ≡ openingByte k) {b more : Bytes} where
   -- a bracket that is closed
-  close : {d : ℕ} {x : Joined (inside k)} → d ≡ closingByte k → Span (ChainText (inside k)) b x (d ∷ more) → Span (BracketText k) (o ∷ b) x more
+  close : {d : ℕ} {x : Joined (inside k)} → d ≡ closingByte k → Span (ChainText (inside k)) b x (d ∷ more)
+      → Span (BracketText k) (o ∷ b) x more
   close f v =
-      record { front = openingByte k ∷ v .front ++ closingByte k ∷ []; splits = rw (v .splits, e, f, append-assoc); text = between (v .front) (v .text) }
+      record {
+        front = openingByte k ∷ v .front ++ closingByte k ∷ [];
+        splits = rw (v .splits, e, f, append-assoc);
+        text = between (v .front) (v .text);
+      }
 
   -- one that another byte leaves open
   leave : {x : Joined (inside k)} → Span (ChainText (inside k)) b x more → Heard (BracketText k) (o ∷ b) (stopped broken more)
@@ -147,7 +159,8 @@ module _ (k : Bracket) {o : ℕ} (e : o ≡ openingByte k) {b more : Bytes} wher
   leave-stop : {s : Stop} → Heard (ChainText (inside k)) b (stopped s more) → Heard (BracketText k) (o ∷ b) (stopped s more)
   leave-stop (begun {x = x} u t q w a) =
       let text : BracketText k (openingByte k ∷ (u ++ t) ++ closingByte k ∷ []) x = between (u ++ t) w in
-      begun {more = more} (openingByte k ∷ u) (t ++ closingByte k ∷ []) (rw (q, e)) (rw append-assoc at text) (longer (closingByte k ∷ []) a)
+      begun {more = more} (openingByte k ∷ u) (t ++ closingByte k ∷ []) (rw (q, e)) (rw append-assoc at text)
+      (longer (closingByte k ∷ []) a)
 
 -- a bracket that is one too many
 not-opened : (k : Bracket) {o : ℕ} {b : Bytes} → o ≡ openingByte k → Heard (BracketText k) (o ∷ b) (stopped deep (o ∷ b))
@@ -162,8 +175,10 @@ heard-label (two-digits {d = d} {e = e} l h m) = exactly ((48 + d) ∷ (48 + e) 
 heard-label (no-digit h) = begun [] (49 ∷ []) refl (grammar.one-digit {d = 1} (omega arith) (omega arith)) anything
 
 -- stars behind an item
-heard-stars : {i : Path} {b : Bytes} {r : Result Path} → StarsRead i b r → {before : Bytes} → Span ItemText before i b → Heard ItemText before r
-heard-stars (one-more x) v = heard-stars x (record { front = v .front ++ 42 ∷ []; splits = rw (v .splits, append-assoc); text = grammar.starred (v .text) })
+heard-stars : {i : Path} {b : Bytes} {r : Result Path} → StarsRead i b r → {before : Bytes} → Span ItemText before i b
+    → Heard ItemText before r
+heard-stars (one-more x) v =
+    heard-stars x (record { front = v .front ++ 42 ∷ []; splits = rw (v .splits, append-assoc); text = grammar.starred (v .text) })
 heard-stars (no-more h) v = whole v
 
 -- Each kind of rule gets texts of its kind; a rule that goes on is given the text before it.
@@ -205,7 +220,8 @@ module _ {limit : ℕ} where
     heard-atom (round x) = lift-all (λ s p w. round-text w) (heard-bracket x)
     heard-atom (no-atom h) = begun [] (46 ∷ []) refl grammar.dot anything
 
-    heard-bracket : {k : Bracket} {n : ℕ} {b : Bytes} {r : Result (Joined (inside k))} → BracketReads limit k n b r → Heard (BracketText k) b r
+    heard-bracket : {k : Bracket} {n : ℕ} {b : Bytes} {r : Result (Joined (inside k))} → BracketReads limit k n b r
+        → Heard (BracketText k) b r
     heard-bracket (closed {k = k} e l x f) = whole (close k e f (span (heard x)))
     heard-bracket (stays-open {k = k} e l x h) = leave k e (span (heard x))
     heard-bracket (inside-stops {k = k} e l x) = leave-stop k e (heard x)

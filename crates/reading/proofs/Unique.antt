@@ -1,7 +1,7 @@
 -- A text has at most one fault, and none if it is a text of a path: two replies that fit call 2 are equal. Assumes nothing.
 use Prim.Native.Nat.{ℕ, _<_}
 use native.Mathlib.Omega.{arith}
-use mathlib.Core.Path.{_≡_, refl, sym, ap, _∙_, subst}
+use mathlib.Core.Path.{_≡_, refl, sym, ap, _∙_}
 use mathlib.Core.Logic.{⊎-elim}
 use lib.ListN.{length}
 use Rattle.reply.specs.Reply.{Said}
@@ -10,7 +10,7 @@ use Rattle.reply.proofs.Unique.{OneFault, Wrong, outcome-one, written-one}
 use Rattle.query.specs.Syntax.{Path}
 use Rattle.query.specs.Table.{entryBytes}
 use Rattle.text.specs.Written.{tableOf}
-use Rattle.text.specs.Promise.{Breaks, OneTooMany, Fits, TextFault, bad-length, breaks, too-deep, too-large, TextOf, TableGiven, TextRead}
+use Rattle.text.specs.Promise.{Breaks, OneTooMany, TextFault, bad-length, breaks, too-deep, too-large, TextOf, TableGiven, TextRead}
 use Rattle.reading.proofs.Place.{path-unique}
 
 module _ (text : Bytes) where
@@ -47,7 +47,8 @@ module _ (text : Bytes) where
   text-wrong n i (bad-length l) (p, t) = l (t .length)
   text-wrong n i (breaks r b s) (p, t) = b .no-path p (t .path)
   text-wrong n i (too-deep r o s b) (p, t) = t .shallow i o
-  text-wrong n i (too-large {p = q} r x s f) (p, t) = f (subst (λ (y : Path). Fits (tableOf y)) (path-unique text p q (t .path) x) (t .fits))
+  text-wrong n i (too-large {p = q} r x s f) (p, t) =
+      f (rw (path-unique text p q (t .path) x) at (t .fits))
 
   -- call 2 says one thing, and leaves one room
   pub text-read-one : (before : Bytes) {x y : Bytes} {s u : Said} → TextRead text before s x → TextRead text before u y → (s ≡ u) × (x ≡ y)

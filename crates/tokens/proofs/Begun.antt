@@ -1,7 +1,7 @@
 -- Chains of which one more link is wanted: one chain that is begun, and two of which one is a link of the other. Assumes nothing.
 use Prim.Native.Nat.{ℕ, _+_, _*_, _≤_, _<_}
 use native.Mathlib.Omega.{arith}
-use mathlib.Core.Path.{_≡_, refl, sym, subst}
+use mathlib.Core.Path.{_≡_, refl}
 use native.Mathlib.Nat.{le-refl}
 use lib.ListN.{length, getD}
 use Rattle.reply.specs.Bytes.{Bytes}
@@ -29,9 +29,11 @@ pub data Begun (c : Chain) (k : ℕ) (text : Bytes) (at : ℕ) (before : Bytes) 
 module _ (c : Chain) {k : ℕ} {text : Bytes} {at : ℕ} {before : Bytes} {n : ℕ} where
   -- the link is read, and joined where it is not the first
   pub linked : {next m : ℕ} {mid : Bytes} {p : Parsed} {to l w : ℕ} {after last : Bytes} {d : Chain}
-      → Begun c k text at before n next m mid → p ≡ Got to l → Follows (links c) k text next mid m p after → d ≡ c → Joins d after n m l w last
+      → Begun c k text at before n next m mid → p ≡ Got to l → Follows (links c) k text next mid m p after → d ≡ c
+      → Joins d after n m l w last
       → Chained c k text at before n to w last
-  linked {m = m} {l = l} {w = w} {after = after} {last = last} b e f same j = go b e f (subst (λ (d : Chain). Joins d after n m l w last) same j)
+  linked {m = m} {l = l} {w = w} {after = after} {last = last} b e f same j =
+      go b e f (rw same at j)
     where
       go : {next m : ℕ} {mid : Bytes} {p : Parsed} {to l w : ℕ} {after last : Bytes}
           → Begun c k text at before n next m mid → p ≡ Got to l → Follows (links c) k text next mid m p after → Joins c after n m l w last
@@ -58,7 +60,7 @@ module _ (c : Chain) {k : ℕ} {text : Bytes} {at : ℕ} {before : Bytes} {n : �
       → Ready text at before n → length mid ≡ length before → Begun c k text at before n next m mid → Ready text next mid m
   begun-ready r e first = r
   begun-ready r e (further {next = place} g j) =
-      ready-after r (g .stands) e (inside text place (subst (λ (b : ℕ). 0 < b) (sym j) (joint-seen c)))
+      ready-after r (g .stands) e (inside text place (rw j (joint-seen c)))
 
   -- where a link was joined, there is room for the entry that joins it
   pub room-to-join : {next m : ℕ} {mid : Bytes} {x : Joined c} {to l : ℕ} {after : Bytes}
@@ -77,7 +79,8 @@ module _ (c : Chain) {k : ℕ} {text : Bytes} {at : ℕ} {before : Bytes} {n : �
 -- the links of the outer chain are the inner chain
 pub as-link : (s : Sort) {k : ℕ} {text : Bytes} {at : ℕ} {before : Bytes} {n : ℕ} {p : Parsed} {after : Bytes}
     → Follows (chains (innerChain s)) k text at before n p after → Follows (links (outerChain s)) k text at before n p after
-as-link sort.Path {at = at} f = following.turned (λ x. x) (record { goes = rules.sequence; halts = rules.sequence }) (le-refl at) (λ x. refl) (omega arith) f
+as-link sort.Path {at = at} f =
+    following.turned (λ x. x) (record { goes = rules.sequence; halts = rules.sequence }) (le-refl at) (λ x. refl) (omega arith) f
 as-link sort.Filter {at = at} f =
     following.turned (λ x. x) (record { goes = rules.conjunction; halts = rules.conjunction }) (le-refl at) (λ x. refl) (omega arith) f
 

@@ -13,7 +13,8 @@ use Rattle.reading.proofs.Parts.{Joined, join, joining}
 use Rattle.reading.proofs.Rules.{Result, got, stopped, NotAt, GoesOn, starts, start-stops, joined, joined-stops, ends}
 use Rattle.tokens.specs.declared.answer.Parsed.{Parsed}
 use Rattle.tokens.specs.declared.answer.Parsed.the-variants.{Got}
-use Rattle.tokens.specs.Reading.{Line, one, Added, Stands, Follows, follows, stops, mostOpen, joinedEntries, joinedKind, chains, links}
+use Rattle.tokens.specs.Reading.{Line, one, Added, Stands, Follows, follows, stops, mostOpen, joinedEntries, joinedKind, chains}
+use Rattle.tokens.specs.Reading.{links}
 use Rattle.tokens.proofs.Entries.{added-on}
 use Rattle.tokens.proofs.Places.{here, not-at, none-of, nor}
 use Rattle.tokens.proofs.Answers.{Failed, not-failed}
@@ -28,10 +29,8 @@ pub record Going (line : Line) (more : line .Thing → Bytes → Result (line .T
 
 -- no byte that joins is 0
 pub joint-seen : (c : Chain) → 0 < joining c
-joint-seen chain.Path = omega arith
-joint-seen chain.Sequence = omega arith
-joint-seen chain.Filter = omega arith
-joint-seen chain.Conjunction = omega arith
+joint-seen c =
+    elim c [ chain.Path ↦ omega arith | chain.Sequence ↦ omega arith | chain.Filter ↦ omega arith | chain.Conjunction ↦ omega arith ]
 
 -- what is written for links that are joined
 writes : (c : Chain) (n : ℕ) (x y : Joined c)
@@ -55,11 +54,13 @@ Chained c k = Going (chains c) (GoesOn mostOpen c k) k
 
 module _ (c : Chain) {k : ℕ} {text : Bytes} {at : ℕ} {before : Bytes} {n : ℕ} where
   -- the first link is read
-  pub started : {p : Parsed} {to m : ℕ} {after : Bytes} → p ≡ Got to m → Follows (links c) k text at before n p after → Chained c k text at before n to m after
+  pub started : {p : Parsed} {to m : ℕ} {after : Bytes} → p ≡ Got to m → Follows (links c) k text at before n p after
+      → Chained c k text at before n to m after
   started e f = let (x, rd, st) = got-stands e f in record { thing = x; goes-on = λ r g. starts rd g; stands = st }
 
   -- the first link is not read
-  pub not-started : {p : Parsed} {after : Bytes} → Failed p → Follows (links c) k text at before n p after → Follows (chains c) k text at before n p after
+  pub not-started : {p : Parsed} {after : Bytes} → Failed p → Follows (links c) k text at before n p after
+      → Follows (chains c) k text at before n p after
   not-started f (follows {to = to} {m = m} rd st) = absurd (not-failed to m f)
   not-started f (stops st rd w) = stops st (start-stops rd) w
 
@@ -76,7 +77,8 @@ module _ (c : Chain) {k : ℕ} {text : Bytes} {at : ℕ} {before : Bytes} {n : �
       joint = here text next (joining c) e (joint-seen c)
 
       -- one more link is not read
-      pub not-turned : {p : Parsed} {after : Bytes} → Failed p → Follows (links c) k text (next + 1) mid m p after → Follows (chains c) k text at before n p after
+      pub not-turned : {p : Parsed} {after : Bytes} → Failed p → Follows (links c) k text (next + 1) mid m p after
+          → Follows (chains c) k text at before n p after
       not-turned f (follows {to = to} {m = l} rd st) = absurd (not-failed to l f)
       not-turned f (stops {s = s} {i = i} st rd w) = stops st (going .goes-on (stopped s (drop i text)) (rw joint (joined-stops refl rd))) w
 
@@ -107,6 +109,8 @@ module _ (c : Chain) {k : ℕ} {text : Bytes} {at : ℕ} {before : Bytes} {n : �
               within = st .within;
               count = omega arith;
               few = omega arith;
-              table = subst (λ (gs : Entries). Added before n gs last) (sym both) (added-on (going .stands .table) count (added-on (st .table) count-too a));
+              table =
+                  subst (λ (gs : Entries). Added before n gs last) (sym both)
+                  (added-on (going .stands .table) count (added-on (st .table) count-too a));
             };
           }

@@ -1,6 +1,6 @@
 -- Which sort a test of its variant says. Assumes nothing.
 use Prim.Native.Nat.{ℕ}
-use mathlib.Core.Path.{_≡_, refl, sym, subst}
+use mathlib.Core.Path.{_≡_, refl, subst}
 use mathlib.Core.List.{[], _∷_}
 use lib.ListN.{getD}
 use denote.Enum.Declared.{tagOf}
@@ -24,5 +24,4 @@ chosen Filter e = subst (λ (j : ℕ). Filter ≡ sortAt j) e refl
 pub link-of : (s : Sort) {i : ℕ} → tagOf the-sort.the-type s ≡ i
     → {k : ℕ} {text : Bytes} {at : ℕ} {before : Bytes} {n : ℕ} {p : Parsed} {after : Bytes}
     → Follows (links (innerChain (sortAt i))) k text at before n p after → Follows (links (innerChain s)) k text at before n p after
-link-of s e {k = k} {text = text} {at = at} {before = before} {n = n} {p = p} {after = after} f =
-    subst (λ (u : Sort). Follows (links (innerChain u)) k text at before n p after) (sym (chosen s e)) f
+link-of s e f = rw (chosen s e) f

@@ -16,21 +16,18 @@ use Rattle.reading.proofs.Parts.{Joined, inside, openingByte, closingByte}
 use Rattle.reading.proofs.Rules.{Result, BracketReads, closed, stays-open, inside-stops, too-deep}
 use Rattle.tokens.specs.declared.answer.Parsed.{Parsed}
 use Rattle.tokens.specs.declared.answer.Parsed.the-variants.{Deep}
-use Rattle.tokens.specs.Reading.{paths, filters, chains, brackets, mostOpen, broken-at, deep-at, Follows, follows, stops, Closed, closed-by, open-at, passed-by}
+use Rattle.tokens.specs.Reading.{paths, filters, chains, brackets, mostOpen, broken-at, deep-at, Follows, follows, stops, Closed}
+use Rattle.tokens.specs.Reading.{closed-by, open-at, passed-by}
 use Rattle.tokens.proofs.Places.{begins, not-at, none-of, nor}
 use Rattle.tokens.proofs.Places as places
 use Rattle.tokens.proofs.Following.{no-stop}
 
 -- no bracket has the byte 0
 opening-seen : (b : Bracket) → 0 < openingByte b
-opening-seen Square = omega arith
-opening-seen Round = omega arith
-opening-seen Curly = omega arith
+opening-seen b = elim b [ Square ↦ omega arith | Round ↦ omega arith | Curly ↦ omega arith ]
 
 closing-seen : (b : Bracket) → 0 < closingByte b
-closing-seen Square = omega arith
-closing-seen Round = omega arith
-closing-seen Curly = omega arith
+closing-seen b = elim b [ Square ↦ omega arith | Round ↦ omega arith | Curly ↦ omega arith ]
 
 module _ (b : Bracket) (text : Bytes) (at : ℕ) (opens : getD text at 0 ≡ openingByte b) where
   -- the byte that opens the bracket is in the text
@@ -38,7 +35,8 @@ module _ (b : Bracket) (text : Bytes) (at : ℕ) (opens : getD text at 0 ≡ ope
   bracket-inside = places.inside text at (rw opens (opening-seen b))
 
   -- a rule of brackets, at the place
-  here : {k : ℕ} {r : Result (Joined (inside b))} → BracketReads mostOpen b k (getD text at 0 ∷ drop (at + 1) text) r → BracketReads mostOpen b k (drop at text) r
+  here : {k : ℕ} {r : Result (Joined (inside b))} → BracketReads mostOpen b k (getD text at 0 ∷ drop (at + 1) text) r
+      → BracketReads mostOpen b k (drop at text) r
   here x = rw (begins text at bracket-inside) x
 
   module _ {k n : ℕ} {before after : Bytes} where
@@ -62,7 +60,8 @@ module _ (b : Bracket) (text : Bytes) (at : ℕ) (opens : getD text at 0 ≡ ope
           table = st .table;
         })
     bracket-follows o (follows {to = to} rd st) c (open-at e) =
-        stops broken-at (here (stays-open opens o (rw (add-one k) at rd) (not-at (closingByte b ∷ []) text to (nor (λ q. e (q ∙ sym c)) none-of)))) (st .within)
+        let other = not-at (closingByte b ∷ []) text to (nor (λ q. e (q ∙ sym c)) none-of) in
+        stops broken-at (here (stays-open opens o (rw (add-one k) at rd) other)) (st .within)
     bracket-follows o (follows rd st) c (passed-by no-such) = absurd (no-stop no-such)
     bracket-follows o (stops no-such rd w) c (closed-by e) = absurd (no-stop no-such)
     bracket-follows o (stops no-such rd w) c (open-at e) = absurd (no-stop no-such)
@@ -70,13 +69,15 @@ module _ (b : Bracket) (text : Bytes) (at : ℕ) (opens : getD text at 0 ≡ ope
 
 module _ {k : ℕ} {text : Bytes} {at : ℕ} {before : Bytes} {n : ℕ} {p : Parsed} {after : Bytes} where
   -- a path stands in a round bracket
-  pub path-inside : (b : Bracket) → OneOf (1 ∷ []) (tagOf the-bracket.the-type b) → Follows paths k text at before n p after → Follows (chains (inside b)) k text at before n p after
+  pub path-inside : (b : Bracket) → OneOf (1 ∷ []) (tagOf the-bracket.the-type b) → Follows paths k text at before n p after
+      → Follows (chains (inside b)) k text at before n p after
   path-inside Square e f = absurd (omega arith)
   path-inside Round e f = f
   path-inside Curly e f = absurd (omega arith)
 
   -- a filter in any other
-  pub filter-inside : (b : Bracket) → OneOf (0 ∷ 2 ∷ []) (tagOf the-bracket.the-type b) → Follows filters k text at before n p after → Follows (chains (inside b)) k text at before n p after
+  pub filter-inside : (b : Bracket) → OneOf (0 ∷ 2 ∷ []) (tagOf the-bracket.the-type b) → Follows filters k text at before n p after
+      → Follows (chains (inside b)) k text at before n p after
   filter-inside Square e f = f
   filter-inside Round (inl e) f = absurd (omega arith)
   filter-inside Round (inr e) f = absurd (omega arith)

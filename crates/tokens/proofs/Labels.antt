@@ -1,7 +1,7 @@
 -- Labels are read by the rules: one digit or two. Assumes nothing.
 use Prim.Native.Nat.{ℕ, _+_, _*_, _≤_, _<_}
 use native.Mathlib.Omega.{arith}
-use mathlib.Core.Path.{_≡_, refl, sym, ap, _∙_, subst}
+use mathlib.Core.Path.{_≡_, refl, ap, _∙_}
 use mathlib.Core.Logic.{_⊎_, inl, inr}
 use mathlib.Core.List.{[], _∷_}
 use lib.ListN.{length, getD, drop}
@@ -42,7 +42,7 @@ not-a-first b (too-high l) z = rules.NoDigit.too-high l
 -- a byte that is no digit, or makes too large a label with d, is no second digit
 not-a-second : {c e : ℕ} (d : ℕ) (b : Bytes) → DigitOf c e → (10 ≤ e) ⊎ (64 < 10 * d + e) → NoSecond d (c ∷ b)
 not-a-second d b (digit l e) (inl z) = absurd (omega arith)
-not-a-second d b (digit l e) (inr z) = subst (λ (c : ℕ). NoSecond d (c ∷ b)) (sym e) (rules.NoSecond.too-large l z)
+not-a-second d b (digit l e) (inr z) = rw e (rules.NoSecond.too-large l z)
 not-a-second d b (too-low l) z = rules.NoSecond.too-low l
 not-a-second d b (too-high l) z = rules.NoSecond.too-high l
 
@@ -66,7 +66,8 @@ module _ (text : Bytes) (at : ℕ) where
         let l = a-digit h small .0 in
         let i = first-inside in
         let more : NoSecond d (drop (at + 1) text) = unread (NoSecond d) text (at + 1) rules.NoSecond.ended (λ b. not-a-second d b g z) in
-        number {to = at + 1} (subst (λ (b : Bytes). LabelReads b (got d (drop (at + 1) text))) (sym first) (one-digit (omega arith) l more)) (omega arith) (omega arith)
+        number {l = d} {to = at + 1} (rw first (one-digit {d = d} (omega arith) l more))
+        (omega arith) (omega arith)
 
     -- two digits are read
     pub two-read : (e : ℕ) → DigitOf (getD text (at + 1) 0) e → e < 10 → 10 * d + e ≤ 64 → LabelAt text at (Number (10 * d + e) (at + 2))
@@ -78,26 +79,32 @@ module _ (text : Bytes) (at : ℕ) where
         let both : drop at text ≡ (48 + d) ∷ (48 + e) ∷ drop (at + 2) text =
         first ∙ ap (λ (b : Bytes). (48 + d) ∷ b) (second ∙ ap (λ (k : ℕ). (48 + e) ∷ drop k text) next) in
         let j : at + 1 < length text = inside text (at + 1) (omega arith) in
-        number {to = at + 2} (subst (λ (b : Bytes). LabelReads b (got (10 * d + e) (drop (at + 2) text))) (sym both) (two-digits (omega arith) (omega arith) z)) (omega arith) (omega arith)
+        number {l = 10 * d + e} {to = at + 2}
+        (rw both (two-digits {d = d} {e = e} (omega arith) (omega arith) z))
+        (omega arith) (omega arith)
 
 -- What was found at the place of a label.
 module _ {text : Bytes} {at : ℕ} {label : Label} (h : LabelAt text at label) where
   -- there is none
-  pub not-numbered : {before after : Bytes} {n : ℕ} → OneOf (1 ∷ []) (tagOf the-label.the-type label) → at ≤ length text → Follows labels 0 text at before n (Broken at) after
+  pub not-numbered : {before after : Bytes} {n : ℕ} → OneOf (1 ∷ []) (tagOf the-label.the-type label) → at ≤ length text
+      → Follows labels 0 text at before n (Broken at) after
   not-numbered {before = before} {after = after} {n = n} none l = go label none h
     where
-      go : (x : Label) → OneOf (1 ∷ []) (tagOf the-label.the-type x) → LabelAt text at x → Follows labels 0 text at before n (Broken at) after
+      go : (x : Label) → OneOf (1 ∷ []) (tagOf the-label.the-type x) → LabelAt text at x
+          → Follows labels 0 text at before n (Broken at) after
       go (Number v to) e (number rd l i) = absurd (omega arith)
       go Nothing e (nothing rd) = stops broken-at rd l
 
   module _ {value next : ℕ} (e : label ≡ Number value next) where
     -- there is one, and the text is longer
     pub numbered : LabelReads (drop at text) (got value (drop next text)) × (at < next) × (next ≤ length text)
-    numbered = go (subst (λ (x : Label). LabelAt text at x) e h)
+    numbered = go (rw e at h)
       where
-        go : LabelAt text at (Number value next) → LabelReads (drop at text) (got value (drop next text)) × (at < next) × (next ≤ length text)
+        go : LabelAt text at (Number value next)
+            → LabelReads (drop at text) (got value (drop next text)) × (at < next) × (next ≤ length text)
         go (number rd l i) = (rd, l, i)
 
     -- its entry is written
-    pub number-follows : {before after : Bytes} {n : ℕ} {p : Parsed} → (p ≡ Got next (n + 1)) × Added before n (one 16 value 0 0) after → Follows labels 0 text at before n p after
+    pub number-follows : {before after : Bytes} {n : ℕ} {p : Parsed} → (p ≡ Got next (n + 1)) × Added before n (one 16 value 0 0) after
+        → Follows labels 0 text at before n p after
     number-follows w = leaf-follows {to = next} value (numbered .0) refl (omega arith) (numbered .1) (numbered .2) w

@@ -29,7 +29,7 @@ inside text at l = go (decLt at (length text))
 -- the byte c, which is not 0, is the next
 pub here : (text : Bytes) (at c : ℕ) → getD text at 0 ≡ c → 0 < c → drop at text ≡ c ∷ drop (at + 1) text
 here text at c e l =
-    let w : at < length text = inside text at (subst (λ (x : ℕ). 0 < x) (sym e) l) in
+    let w : at < length text = inside text at (rw e l) in
     begins text at w ∙ ap (λ (x : ℕ). x ∷ drop (at + 1) text) e
 
 -- what holds of an ended text, and of each text that begins with the byte at the place, holds of the unread text

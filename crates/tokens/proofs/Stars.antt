@@ -1,7 +1,7 @@
 -- An atom and its stars. Assumes nothing.
 use Prim.Native.Nat.{ℕ, _+_, _-_, _<_}
 use native.Mathlib.Omega.{arith}
-use mathlib.Core.Path.{_≡_, sym, subst}
+use mathlib.Core.Path.{_≡_, subst}
 use mathlib.Core.List.{[], _∷_}
 use lib.ListN.{length, getD, drop, length-append}
 use Rattle.reply.specs.Bytes.{Bytes}
@@ -20,11 +20,13 @@ use Rattle.tokens.proofs.Chains.{Going}
 
 module _ {k : ℕ} {text : Bytes} {at : ℕ} {before : Bytes} {n : ℕ} where
   -- the atom is read
-  pub atom-read : {p : Parsed} {to m : ℕ} {after : Bytes} → p ≡ Got to m → Follows atoms k text at before n p after → Going items StarsRead k text at before n to m after
+  pub atom-read : {p : Parsed} {to m : ℕ} {after : Bytes} → p ≡ Got to m → Follows atoms k text at before n p after
+      → Going items StarsRead k text at before n to m after
   atom-read e f = let (x, rd, st) = got-stands e f in record { thing = x; goes-on = λ r s. item rd s; stands = st }
 
   -- the atom is not read
-  pub atom-not-read : {p : Parsed} {after : Bytes} → Failed p → Follows atoms k text at before n p after → Follows items k text at before n p after
+  pub atom-not-read : {p : Parsed} {after : Bytes} → Failed p → Follows atoms k text at before n p after
+      → Follows items k text at before n p after
   atom-not-read f (follows {to = to} {m = m} rd st) = absurd (not-failed to m f)
   atom-not-read f (stops st rd w) = stops st (item-stops rd) w
 
@@ -36,7 +38,8 @@ module _ {k : ℕ} {text : Bytes} {at : ℕ} {before : Bytes} {n : ℕ} where
         follows (going .goes-on (got (going .thing) (drop next text)) (no-more off)) (going .stands)
 
     -- one more star
-    pub starred : {last : Bytes} → getD text next 0 ≡ 42 → Added mid m (one 9 0 (m - 1) 0) last → Going items StarsRead k text at before n (next + 1) (m + 1) last
+    pub starred : {last : Bytes} → getD text next 0 ≡ 42 → Added mid m (one 9 0 (m - 1) 0) last
+        → Going items StarsRead k text at before n (next + 1) (m + 1) last
     unfolding pathEntries
     starred {last = last} e a =
         let x : Path = going .thing in
@@ -50,7 +53,7 @@ module _ {k : ℕ} {text : Bytes} {at : ℕ} {before : Bytes} {n : ℕ} where
         let len : length (pathEntries n (star x)) ≡ length es + 1 = length-append es (one 9 0 (n + length es - 1) 0) in
         record {
           thing = star x;
-          goes-on = λ r s. going .goes-on r (subst (λ (b : Bytes). StarsRead x b r) (sym (here text next 42 e (omega arith))) (one-more s));
+          goes-on = λ r s. going .goes-on r (rw (here text next 42 e (omega arith)) (one-more s));
           stands = record {
             further = omega arith;
             some = omega arith;

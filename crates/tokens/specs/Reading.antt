@@ -39,7 +39,8 @@ pub record Added (before : Bytes) (n : ℕ) (es : Entries) (after : Bytes) : Typ
   pub front : take (6 * (n + length es)) after ≡ take (6 * n) before ++ entryBytes es
 
 -- x is read from `at` up to `to`, and its entries stand behind the n entries of the table, which now has m.
-pub record Stands {A : Type 0} (written : ℕ → A → Entries) (spare : ℕ) (text : Bytes) (at : ℕ) (before : Bytes) (n : ℕ) (x : A) (to m : ℕ) (after : Bytes) : Type 0 where
+pub record Stands {A : Type 0} (written : ℕ → A → Entries) (spare : ℕ) (text : Bytes) (at : ℕ) (before : Bytes) (n : ℕ) (x : A)
+    (to m : ℕ) (after : Bytes) : Type 0 where
   pub further : at < to
   pub some : n < m
   pub within : to ≤ length text
@@ -56,7 +57,8 @@ pub data StopsAt : Parsed → Stop → ℕ → Type 0 where
 pub data Follows (line : Line) (k : ℕ) (text : Bytes) (at : ℕ) (before : Bytes) (n : ℕ) : Parsed → Bytes → Type 0 where
   follows : {x : line .Thing} {to m : ℕ} {after : Bytes} → line .reads k (drop at text) (got x (drop to text))
       → Stands (line .written) (line .spare) text at before n x to m after → Follows line k text at before n (Got to m) after
-  stops : {p : Parsed} {s : Stop} {i : ℕ} {after : Bytes} → StopsAt p s i → line .reads k (drop at text) (stopped s (drop i text)) → i ≤ length text
+  stops : {p : Parsed} {s : Stop} {i : ℕ} {after : Bytes} → StopsAt p s i → line .reads k (drop at text) (stopped s (drop i text))
+      → i ≤ length text
       → Follows line k text at before n p after
 
 -- The place is in the text, and the table has room for what can follow: two entries for each byte.
@@ -124,7 +126,8 @@ innerChain sort.Filter = chain.Conjunction
 -- What the entries from `left` up to `right` say is joined to what those from `from` up to `left` say, where there are any.
 pub data Joins (c : Chain) (before : Bytes) (from left right : ℕ) : ℕ → Bytes → Type 0 where
   alone : left ≤ from → Joins c before from left right right before
-  both : {after : Bytes} → from < left → Added before right (one (joinedKind c) 0 (left - 1) (right - 1)) after → Joins c before from left right (right + 1) after
+  both : {after : Bytes} → from < left → Added before right (one (joinedKind c) 0 (left - 1) (right - 1)) after
+      → Joins c before from left right (right + 1) after
 
 -- A label, as a filter of it is written.
 abbrev pub labels : Line

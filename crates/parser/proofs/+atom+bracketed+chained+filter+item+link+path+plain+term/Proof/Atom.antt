@@ -115,7 +115,8 @@ module _ (t : ℕ) where
   returns-3 c =
       let a : Axis = c .before in
       let s = seen a in
-      no-atom (beginning s .pre .1 .within) (not-byte s (a .before .before .if1 .left)) (not-byte s (a .before .if2 .left)) (at-axis a) (c .if3 .taken)
+      no-atom (beginning s .pre .1 .within) (not-byte s (a .before .before .if1 .left)) (not-byte s (a .before .if2 .left)) (at-axis a)
+      (c .if3 .taken)
 
   pub add-leaf : lts.Need-add-leaf (claims t) (own t) atom.Post
   add-leaf c = search needs

@@ -13,7 +13,8 @@ use borrow.Fn.Kinds.{In}
 use native.Mathlib.Omega.{arith}
 use Rattle.tokens.proofs.Following.{place-in-text, ready-on}
 use Rattle.tokens.proofs.Enclosed.{bracket-inside, bracket-too-deep, bracket-follows, path-inside, filter-inside}
-use Rattle.parser.proofs.+atom+bracketed+chained+filter+item+link+path+plain+term.Proof.Measures.{given, asked, μ-bracketed, μ-filter, μ-path}
+use Rattle.parser.proofs.+atom+bracketed+chained+filter+item+link+path+plain+term.Proof.Measures.{given, asked, μ-bracketed}
+use Rattle.parser.proofs.+atom+bracketed+chained+filter+item+link+path+plain+term.Proof.Measures.{μ-filter, μ-path}
 use Rattle.parser.proofs.+atom+bracketed+chained+filter+item+link+path+plain+term.Lts-bracketed as lts
 use Rattle.parser.proofs.bracketed.Reads as bracketed
 use Rattle.parser.proofs.path.Reads as path
@@ -66,8 +67,12 @@ module _ (t : ℕ) where
   held c =
       let kind = beginning c .args .bracket in
       ⊎-elim
-      (λ w. (subst₂ (Inside c) (sym (w .7)) (sym (w .6)) (path-inside kind (w .0 .keys1) (w .3 .ensures)), ap length (w .6) ∙ w .3 .kept .1 .1 .1 .0))
-      (λ w. (subst₂ (Inside c) (sym (w .6)) (sym (w .5)) (filter-inside kind (w .0 .keys2) (w .2 .ensures)), ap length (w .5) ∙ w .2 .kept .1 .1 .1 .0))
+      (λ w.
+      let read = path-inside kind (w .0 .keys1) (w .3 .ensures) in
+      (subst₂ (Inside c) (sym (w .7)) (sym (w .6)) read, ap length (w .6) ∙ w .3 .kept .1 .1 .1 .0))
+      (λ w.
+      let read = filter-inside kind (w .0 .keys2) (w .2 .ensures) in
+      (subst₂ (Inside c) (sym (w .6)) (sym (w .5)) read, ap length (w .5) ∙ w .2 .kept .1 .1 .1 .0))
       (c .match .came)
 
   pub returns : lts.Need-returns (claims t) (own t) bracketed.Post
@@ -115,4 +120,5 @@ module _ (t : ℕ) where
   returns-2 c =
       let read : Held = c .before .before in
       let s = beginning read in
-      bracket-follows (s .args .bracket) _ _ (s .pre .1 .1) (read .before .if1 .left) (held read .0) (c .before .closing .ensures) (c .closed .ensures)
+      bracket-follows (s .args .bracket) _ _ (s .pre .1 .1) (read .before .if1 .left) (held read .0) (c .before .closing .ensures)
+      (c .closed .ensures)

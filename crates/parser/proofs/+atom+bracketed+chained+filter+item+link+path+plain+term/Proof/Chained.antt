@@ -208,7 +208,8 @@ module _ (t : ℕ) where
       Reading h (outer h) (a .at) (table h) (a .count) (last (more i)) (at-outer c .joined2 .result) (table-outer c)
   reading-outer c =
       let h = origin (ended-inner c .before) in
-      linked (outer h) (standing h .outside) refl (link-outer (ended-inner c)) (at-outer c .before .outer .ensures) (at-outer c .joined2 .ensures)
+      linked (outer h) (standing h .outside) refl (link-outer (ended-inner c)) (at-outer c .before .outer .ensures)
+      (at-outer c .joined2 .ensures)
 
   -- the byte of the outer chain
   outer-joint : (c : Outer) → c .joint2 .result ≡ joining (outer (origin (ended-inner c .before)))

@@ -5,7 +5,8 @@ use borrow.Author.Needs.{needs}
 use borrow.Fn.Kinds.{In}
 use native.Mathlib.Omega.{arith}
 use Rattle.tokens.proofs.Chosen.{chosen, link-of}
-use Rattle.parser.proofs.+atom+bracketed+chained+filter+item+link+path+plain+term.Proof.Measures.{given, asked, rank, μ-item, μ-link, μ-term}
+use Rattle.parser.proofs.+atom+bracketed+chained+filter+item+link+path+plain+term.Proof.Measures.{given, asked, rank, μ-item, μ-link}
+use Rattle.parser.proofs.+atom+bracketed+chained+filter+item+link+path+plain+term.Proof.Measures.{μ-term}
 use Rattle.parser.proofs.+atom+bracketed+chained+filter+item+link+path+plain+term.Lts-link as lts
 use Rattle.parser.proofs.link.Reads as link
 use Rattle.parser.proofs.item.Reads as item

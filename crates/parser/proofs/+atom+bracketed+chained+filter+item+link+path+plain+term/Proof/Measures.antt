@@ -1,5 +1,5 @@
--- The measures of the readers that call each other: 16 for each byte that is not read, and a rank among those that call each other at one place.
--- Assumes nothing.
+-- The measures of the readers that call each other: 16 for each byte that is not read, and a rank among those that call each other at one
+-- place. Assumes nothing.
 use Prim.Native.Nat.{ℕ, _+_, _-_, _*_, _<_}
 use mathlib.Core.List.{List}
 use lib.ListN.{length}

@@ -1,6 +1,6 @@
 -- `plain`, as a member of the cycle of calls: by the byte at the place one of four terms, or a path. Assumes nothing.
 use Prim.Native.Nat.{ℕ, _<_}
-use mathlib.Core.Path.{_≡_, sym, _∙_, subst}
+use mathlib.Core.Path.{_≡_, sym, _∙_}
 use mathlib.Core.List.{List·Memᴰ}
 use native.Mathlib.Nat.{le-refl}
 use lib.ListN.{length, getD}
@@ -12,7 +12,8 @@ use Rattle.reading.proofs.Rules.{termBytes}
 use Rattle.tokens.proofs.Places.{inside, nor, none-of}
 use Rattle.tokens.proofs.Following.{room-after, ready-on}
 use Rattle.tokens.proofs.Terms.{t-follows, f-follows, label-follows, curly-follows, leads-follows}
-use Rattle.parser.proofs.+atom+bracketed+chained+filter+item+link+path+plain+term.Proof.Measures.{given, asked, μ-bracketed, μ-path, μ-plain}
+use Rattle.parser.proofs.+atom+bracketed+chained+filter+item+link+path+plain+term.Proof.Measures.{given, asked, μ-bracketed, μ-path}
+use Rattle.parser.proofs.+atom+bracketed+chained+filter+item+link+path+plain+term.Proof.Measures.{μ-plain}
 use Rattle.parser.proofs.+atom+bracketed+chained+filter+item+link+path+plain+term.Lts-plain as lts
 use Rattle.parser.proofs.plain.Reads as plain
 use Rattle.tokens.proofs.label.byte_at.Reads as byte-at-reads
@@ -60,12 +61,25 @@ module _ (t : ℕ) where
   place c = beginning c .args .at
 
   -- the byte at the place
-  at-byte : (c : Seen) {byte : ℕ} → c .byte-at .result ≡ byte → getD (text c) (place c) 0 ≡ byte
+  abbrev byte : Seen → ℕ
+  byte c = getD (text c) (place c) 0
+
+  at-byte : (c : Seen) {x : ℕ} → c .byte-at .result ≡ x → byte c ≡ x
   at-byte c e = sym (c .byte-at .ensures) ∙ e
 
+  -- it is `t`, `f` or `#` where that case is taken
+  byte-t : (c : lts.At-match-keys1 (claims t) (own t) plain.Post) → byte (c .before) ≡ 116
+  byte-t c = at-byte (c .before) (c .match .keys1)
+
+  byte-f : (c : lts.At-match-keys2 (claims t) (own t) plain.Post) → byte (c .before) ≡ 102
+  byte-f c = at-byte (c .before) (c .match .keys2)
+
+  byte-hash : (c : lts.At-match-keys3 (claims t) (own t) plain.Post) → byte (c .before) ≡ 35
+  byte-hash c = at-byte (c .before) (c .match .keys3)
+
   -- a byte that is not 0 is in the text
-  in-text : (c : Seen) (byte : ℕ) → c .byte-at .result ≡ byte → 0 < byte → place c < length (text c)
-  in-text c byte e s = inside (text c) (place c) (subst (λ (x : ℕ). 0 < x) (sym (at-byte c e)) s)
+  in-text : (c : Seen) {x : ℕ} → byte c ≡ x → 0 < x → place c < length (text c)
+  in-text c e s = inside (text c) (place c) (rw e s)
 
   -- a byte that is none of the five
   no-term : (c : lts.At-match-rest (claims t) (own t) plain.Post) → ¬ List·Memᴰ (getD (text (c .before)) (place (c .before)) 0) termBytes
@@ -84,7 +98,7 @@ module _ (t : ℕ) where
   pub leaf-requires : lts.Need-leaf-requires (claims t) (own t) plain.Post
   leaf-requires c κs =
       let seen = c .before .before in
-      omega (arith, in-text seen 116 (c .before .match .keys1) (omega arith), beginning seen .pre .1 .0 .room)
+      omega (arith, in-text seen (byte-t (c .before)) (omega arith), beginning seen .pre .1 .0 .room)
 
   pub add-leaf-2 : lts.Need-add-leaf-2 (claims t) (own t) plain.Post
   add-leaf-2 c = search needs
@@ -92,7 +106,7 @@ module _ (t : ℕ) where
   pub leaf-requires-2 : lts.Need-leaf-requires-2 (claims t) (own t) plain.Post
   leaf-requires-2 c κs =
       let seen = c .before .before in
-      omega (arith, in-text seen 102 (c .before .match .keys2) (omega arith), beginning seen .pre .1 .0 .room)
+      omega (arith, in-text seen (byte-f (c .before)) (omega arith), beginning seen .pre .1 .0 .room)
 
   pub add-labelled : lts.Need-add-labelled (claims t) (own t) plain.Post
   add-labelled c = search needs
@@ -100,7 +114,7 @@ module _ (t : ℕ) where
   pub labelled-requires : lts.Need-labelled-requires (claims t) (own t) plain.Post
   labelled-requires c κs =
       let seen = c .before .before in
-      ready-on (beginning seen .pre .1 .0) (in-text seen 35 (c .before .match .keys3) (omega arith))
+      ready-on (beginning seen .pre .1 .0) (in-text seen (byte-hash (c .before)) (omega arith))
 
   pub bracketed-requires : lts.Need-bracketed-requires (claims t) (own t) plain.Post
   bracketed-requires c κs =
@@ -120,33 +134,25 @@ module _ (t : ℕ) where
   same-length c = search needs
 
   pub returns : lts.Need-returns (claims t) (own t) plain.Post
-  returns c =
-      let chosen = c .before .before .before .before in
-      t-follows (at-byte (chosen .before) (chosen .match .keys1)) (c .before .before .leaf .ensures)
+  returns c = let wrote = c .before .before in t-follows (byte-t (wrote .before .before)) (wrote .leaf .ensures)
 
   pub same-length-2 : lts.Need-same-length-2 (claims t) (own t) plain.Post
   same-length-2 c = search needs
 
   pub returns-2 : lts.Need-returns-2 (claims t) (own t) plain.Post
-  returns-2 c =
-      let chosen = c .before .before .before .before in
-      f-follows (at-byte (chosen .before) (chosen .match .keys2)) (c .before .before .leaf2 .ensures)
+  returns-2 c = let wrote = c .before .before in f-follows (byte-f (wrote .before .before)) (wrote .leaf2 .ensures)
 
   pub same-length-3 : lts.Need-same-length-3 (claims t) (own t) plain.Post
   same-length-3 c = search needs
 
   pub returns-3 : lts.Need-returns-3 (claims t) (own t) plain.Post
-  returns-3 c =
-      let chosen = c .before .before .before .before in
-      label-follows (at-byte (chosen .before) (chosen .match .keys3)) (c .before .before .labelled .ensures)
+  returns-3 c = let wrote = c .before .before in label-follows (byte-hash (wrote .before .before)) (wrote .labelled .ensures)
 
   pub same-length-4 : lts.Need-same-length-4 (claims t) (own t) plain.Post
   same-length-4 c = search needs
 
   pub returns-4 : lts.Need-returns-4 (claims t) (own t) plain.Post
-  returns-4 c =
-      let read = c .before .before in
-      curly-follows (read .bracketed .ensures)
+  returns-4 c = let read = c .before .before in curly-follows (read .bracketed .ensures)
 
   pub same-length-5 : lts.Need-same-length-5 (claims t) (own t) plain.Post
   same-length-5 c = search needs

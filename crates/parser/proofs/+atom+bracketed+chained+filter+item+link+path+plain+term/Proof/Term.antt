@@ -37,7 +37,8 @@ claims t = (
 abbrev pub Inv-loop : lts.InvT-loop
 Inv-loop text at depth table₀ count next₀ answer₀ table next answer =
     (at ≤ next) × (next ≤ next₀) × (length table ≡ length table₀)
-    × ((before : Bytes) → Follows terms depth text next₀ before count answer₀ table₀ → Follows terms depth text next before count answer table)
+    × ((before : Bytes) → Follows terms depth text next₀ before count answer₀ table₀
+    → Follows terms depth text next before count answer table)
 
 abbrev pub μ-loop : lts.MeasureT-loop
 μ-loop text at depth table₀ count next₀ answer₀ table next answer = next
@@ -112,11 +113,14 @@ module _ (t : ℕ) where
       let l = c .before .before .before .before .loop-test in
       let place : ℕ = h .loop .next - 1 in
       let e : place + 1 ≡ h .loop .next = omega arith in
-      let byte = passed h .past-nots .ensures .each place (omega arith) (omega arith) in (
+      let byte = passed h .past-nots .ensures .each place (omega arith) (omega arith) in
+      let wrote = c .before .before .behind in (
         omega arith,
         omega arith,
-        c .before .before .behind .kept .0 ∙ h .loop .inv .2,
-        λ before f. let one-on = subst (λ (i : ℕ). From h i before) (sym e) (h .loop .inv .3 before f) in not-follows byte one-on (c .before .before .behind .ensures),
+        wrote .kept .0 ∙ h .loop .inv .2,
+        λ before f.
+            let one-on = subst (λ (i : ℕ). From h i before) (sym e) (h .loop .inv .3 before f) in
+            not-follows byte one-on (wrote .ensures),
       )
 
   pub same-length : lts.Need-same-length (claims t) (own t) term.Post Inv-loop μ-loop

@@ -20,7 +20,9 @@ returns-5 : tie.Need-returns-5
 returns-5 c = less (c .match .keys5)
 
 returns-6 : tie.Need-returns-6
-returns-6 c = let r = c .match .rest in no-axis (nor (r .0 .0 .0 .0 .1) (nor (r .0 .0 .0 .1) (nor (r .0 .0 .1) (nor (r .0 .1) (nor (r .1) none-of)))))
+returns-6 c =
+    let r = c .match .rest in
+    no-axis (nor (r .0 .0 .0 .0 .1) (nor (r .0 .0 .0 .1) (nor (r .0 .0 .1) (nor (r .0 .1) (nor (r .1) none-of)))))
 
 pub axis-spec : {M : Type 1} → statement M
 axis-spec = tie.close (tie.spec returns returns-2 returns-3 returns-4 returns-5 returns-6)

@@ -62,7 +62,8 @@ returns-3 : tie.Need-returns-3
 returns-3 c =
     let second = c .before .before in
     let tested = begun second in
-    two-read _ _ _ (tens (first second)) (tested .before .if1 .left) (tested .if2 .left) _ (ones second) (c .before .if3 .taken) (c .if4 .taken)
+    two-read _ _ _ (tens (first second)) (tested .before .if1 .left) (tested .if2 .left) _ (ones second) (c .before .if3 .taken)
+    (c .if4 .taken)
 
 add-t8 : tie.Need-add-t8
 add-t8 c = search needs
@@ -70,7 +71,8 @@ add-t8 c = search needs
 returns-4 : tie.Need-returns-4
 returns-4 c =
     let tested = begun (c .before) in
-    one-read _ _ _ (tens (first (c .before))) (tested .before .if1 .left) (tested .if2 .left) (ones (c .before)) (⊎-elim (λ w. inr (w .1 .left)) (λ w. inl (w .left)) (c .if3 .came))
+    one-read _ _ _ (tens (first (c .before))) (tested .before .if1 .left) (tested .if2 .left) (ones (c .before))
+    (⊎-elim (λ w. inr (w .1 .left)) (λ w. inl (w .left)) (c .if3 .came))
 
 pub read-label-spec : {M : Type 1} → statement M
 read-label-spec =
