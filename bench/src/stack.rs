@@ -58,14 +58,34 @@ fn towers(path: [u8; 6], filter: [u8; 6], height: usize) -> [(&'static str, Vec<
     ]
 }
 
+/// Stars of a step and a filter, in this order or the other, so many inside one another: each filter asks whether the star before it leads
+/// somewhere. The step leads down or along another axis. The last entry is such a filter, and the one before it a star.
+fn filtered_stars(many: usize, axis: u8, filter_first: bool) -> Vec<u8> {
+    let mut table = vec![entry(2, 0, 0), entry(axis, 0, 0), entry(8, 0, 1), entry(18, 0, 0)];
+    for filter in (0..many).map(|star| 3 + 4 * star) {
+        let stay = filter + 1;
+        let (left, right) = if filter_first { (stay, 2) } else { (2, stay) };
+        table.extend([entry(6, filter, 0), entry(7, left, right), entry(9, filter + 2, 0), entry(17, filter + 3, 0)]);
+    }
+    table.concat()
+}
+
+fn stack_line(name: &str, roll: &[u8], table: &[u8]) {
+    let mut reply = Reply::Count(0);
+    let bytes = taken(|| reply = compare::answer_on_roll(roll, table, &mut [0; 512]));
+    println!("{name:<38}{bytes:>12}{:>8}", reply.to_string());
+}
+
 pub fn stack() {
     println!("{:<38}{:>12}{:>8}", "stack, on tables 128 high", "bytes", "reply");
-    let roll = [1, 0, 255, 255];
     let alone = ("one entry alone", vec![1, 0, 0, 0, 0, 0]);
     for (name, table) in [alone].into_iter().chain(towers(entry(1, 0, 0), entry(18, 0, 0), 128)) {
-        let mut reply = Reply::Count(0);
-        let bytes = taken(|| reply = compare::answer_on_roll(&roll, &table, &mut [0; 512]));
-        println!("{name:<38}{bytes:>12}{:>8}", reply.to_string());
+        stack_line(name, &[1, 0, 255, 255], &table);
+    }
+    let two = [1, 0, 255, 255, 1, 0, 0, 0];
+    for (name, filter_first) in [("stars of a step and a filter", false), ("stars of a filter and a step", true)] {
+        let table = filtered_stars(31, 3, filter_first);
+        stack_line(name, &two, &table[..table.len() - 6]);
     }
 }
 
@@ -107,6 +127,12 @@ fn queries(step: u8) -> Vec<(&'static str, Vec<u8>)> {
     towers.map(|(name, tower)| (name, ended(tower).into_iter().find(accepted).expect("one is accepted"))).collect()
 }
 
+/// Stars of a step and a filter inside one another, 29 high.
+fn filtered_query(axis: u8) -> (&'static str, Vec<u8>) {
+    let table = filtered_stars(7, axis, false);
+    ("stars of a step and a filter", table[..table.len() - 6].to_vec())
+}
+
 /// What call 6 takes with a filter.
 fn curators(input: &Annotated, query: &[u8]) -> usize {
     let Annotated { roll, annotation, filters } = input;
@@ -114,13 +140,22 @@ fn curators(input: &Annotated, query: &[u8]) -> usize {
     taken(|| assert!(matches!(answer(), Reply::Count(_))))
 }
 
+/// What call 4 takes with a filter.
+fn cutting(input: &Annotated) -> usize {
+    let Annotated { roll, annotation, filters } = input;
+    let mut room = vec![0; roll.len()];
+    taken(|| assert!(matches!(compare::cut_view(roll, annotation, filters, &mut room), Reply::Count(_))))
+}
+
 /// For each axis the query that takes most, with the filter with which it does.
 pub fn curators_stack() {
-    println!("{:<38}{:>12}", "stack of call 6, on tables 32 high", "bytes");
-    let inputs = filters();
+    println!("{:<38}{:>12}", "stack of calls 4 and 6, on tables 32 high", "bytes");
+    let mut inputs = filters();
+    inputs.push(annotated(filtered_stars(3, 3, false)));
+    println!("{:<38}{:>12}", "call 4, filters 16 high", inputs.iter().map(cutting).max().expect("there are filters"));
     for (axis, step) in [("child", 2), ("parent", 3), ("next", 4), ("previous", 5)] {
         let most = |query: &[u8]| inputs.iter().map(|input| curators(input, query)).max();
-        let taken = queries(step).into_iter().map(|(name, query)| (most(&query), name));
+        let taken = queries(step).into_iter().chain([filtered_query(step)]).map(|(name, query)| (most(&query), name));
         let (Some(bytes), name) = taken.max().expect("there are queries") else { panic!("there are filters") };
         println!("{:<38}{bytes:>12}", format!("upon {axis}: {name}"));
     }

@@ -15,15 +15,14 @@ fn open(roll: Vec<u8>) -> Annotated {
     Annotated { roll, annotation: Vec::new(), filters: Vec::new() }
 }
 
-/// The replies of calls 1, 3, 4 and 6 for a roll, and the length of the run of its record 0. The curator asks for the root, which is there
-/// in every roll: on one chain of 4,096 all nodes would take her seconds.
+/// The replies of calls 1, 3, 4 and 6 for a roll, where all nodes are asked for, and the length of the run of its record 0.
 fn judged(roll: &[u8]) -> ([Reply; 4], usize) {
     let (all, input) = (table_of("v*"), open(roll.to_vec()));
     let replies = [
         same::check_roll(roll),
         same::answer_on_roll(roll, &all, BITMAP_ROOM).0,
         same::cut_view(&input, roll.len()).0,
-        same::curators_answer(&input, &table_of("."), BITMAP_ROOM).0,
+        same::curators_answer(&input, &all, BITMAP_ROOM).0,
     ];
     (replies, same::run_of_record(roll, 0).len())
 }
@@ -44,8 +43,7 @@ fn shapes(size: usize) -> [Vec<u8>; 5] {
 fn the_nodes_of_a_roll() {
     for size in [1, 2, 4095, MOST_NODES] {
         for roll in shapes(size) {
-            let [nodes, root] = [size, 1].map(Reply::Count);
-            assert_eq!(judged(&roll), ([nodes, nodes, nodes, root], 4 * size));
+            assert_eq!(judged(&roll), ([Reply::Count(size); 4], 4 * size));
         }
     }
     for roll in shapes(MOST_NODES + 1) {
@@ -189,6 +187,8 @@ fn a_chain_with_hidden_nodes() {
         let input = Annotated { roll, ..Annotated::hiding_label_2() };
         assert_eq!(same::cut_view(&input, input.roll.len()).0, Reply::Count(shown));
         assert_eq!(curators(&input, &table_of("v")), [Reply::Count(0), Reply::Count(1)]);
+        assert_eq!(curators(&input, &table_of("v*")), [Reply::Count(0), Reply::Count(shown)]);
+        assert_eq!(curators(&input, &table_of("v*/[!v]/^*")), [Reply::Count(0), Reply::Count(shown)]);
     }
 }
 

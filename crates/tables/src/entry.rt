@@ -53,9 +53,15 @@ pub fn entry_at(table: &[u8], i: usize) -> Entry
     }
 }
 
+pub fn kind_at(table: &[u8], i: usize) -> usize
+    ensures { λ r. ⌜ r ≡ entryAt (entries (now (table .entry))) i .kind ⌝ }
+{
+    entry_at(table, i).kind
+}
+
 // The number of the sort of entry i, 0 where its kind is not listed.
 pub fn sort_at(table: &[u8], i: usize) -> u8
     ensures { λ r. ⌜ r ≡ sortOf (rowAt (entries (now (table .entry))) i) ⌝ }
 {
-    sort_of(entry_at(table, i).kind)
+    sort_of(kind_at(table, i))
 }

@@ -8,15 +8,15 @@ use borrow.Author.Needs.{needs}
 use Rattle.tables.proofs.entry.sort_at.Statement.{statement}
 use Rattle.tables.proofs.entry.sort_at.Tie as tie
 
-entry-at-requires : tie.Need-entry-at-requires
-entry-at-requires c κs = search needs
+kind-at-requires : tie.Need-kind-at-requires
+kind-at-requires c κs = search needs
 
 sort-of-requires : tie.Need-sort-of-requires
 sort-of-requires c κs = search needs
 
 returns : tie.Need-returns
 unfolding rowAt
-returns c = c .sort-of .ensures ∙ ap (λ (k : ℕ). sortOf (rowOf k)) (c .before .entry-at .ensures .kind)
+returns c = c .sort-of .ensures ∙ ap (λ (k : ℕ). sortOf (rowOf k)) (c .before .kind-at .ensures)
 
 pub sort-at-spec : {M : Type 1} → statement M
-sort-at-spec = tie.close (tie.spec entry-at-requires sort-of-requires returns)
+sort-at-spec = tie.close (tie.spec kind-at-requires sort-of-requires returns)
