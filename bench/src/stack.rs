@@ -35,9 +35,19 @@ fn entry(kind: u8, left: usize, right: usize) -> [u8; 6] {
     [kind, 0, left as u8, 0, right as u8, 0]
 }
 
+/// A composition with entry 0 upon entry 0 at first, then upon the star before it, and stars of these in turn.
+fn star_or_then(at: usize) -> [u8; 6] {
+    let below = if at == 2 { 0 } else { at - 1 };
+    if at % 2 == 0 {
+        entry(7, below, 0)
+    } else {
+        entry(9, below, 0)
+    }
+}
+
 /// Tables of one entry more than their height: entry 0 is a path, entry 1 a filter, and each of those above has the one before it as an
 /// operand. The last entry is a path.
-fn towers(path: [u8; 6], filter: [u8; 6], height: usize) -> [(&'static str, Vec<u8>); 9] {
+fn towers(path: [u8; 6], filter: [u8; 6], height: usize) -> [(&'static str, Vec<u8>); 10] {
     let tower = |next: &dyn Fn(usize) -> [u8; 6]| {
         [path, filter].into_iter().chain((2..height + 1).map(next)).flatten().collect()
     };
@@ -47,6 +57,7 @@ fn towers(path: [u8; 6], filter: [u8; 6], height: usize) -> [(&'static str, Vec<
     };
     [
         ("stars", paths(&|below| entry(9, below, 0))),
+        ("stars of left, then right", tower(&star_or_then)),
         ("left, then right: left", paths(&|below| entry(7, below, 0))),
         ("left, then right: right", paths(&|below| entry(7, 0, below))),
         ("left or right: left", paths(&|below| entry(8, below, 0))),

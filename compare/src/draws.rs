@@ -6,6 +6,7 @@ use second::table::{Limits, CURATORS_QUERY, FILTER_TABLE, QUERY_ON_ROLL};
 use crate::annotated::Annotated;
 use crate::chance::Chance;
 use crate::damage::{break_annotation, break_roll, break_table};
+use crate::labels::Labels;
 use crate::outcomes::*;
 use crate::records::{chain, grown_roll, labelled, wide, MOST_NODES};
 use crate::same::{self, BITMAP_ROOM, REWRITE_ROOM, TEXT_ROOM};
@@ -181,6 +182,9 @@ fn some_query(chance: &mut Chance, limits: Limits, largest: usize) -> Vec<u8> {
 fn answer_on_roll(chance: &mut Chance, seen: &mut Seen) {
     let (mut roll, great) = some_roll(chance, LABELS, MOST_NODES);
     let mut query = some_query(chance, QUERY_ON_ROLL, 300);
+    let labels = Labels::drawn(chance);
+    labels.on_roll(&mut roll);
+    labels.in_table(&mut query);
     if to_break(chance, great) {
         for _ in 0..1 + chance.below(2) {
             match chance.below(2) {
@@ -222,6 +226,7 @@ fn break_annotated(chance: &mut Chance, input: &mut Annotated) {
 fn cut_view(chance: &mut Chance, seen: &mut Seen) {
     let (roll, great) = some_roll(chance, LABELS, MOST_NODES);
     let mut input = Annotated { roll, ..some_annotated(chance, 1) };
+    Labels::drawn(chance).on(&mut input);
     if to_break(chance, great) {
         for _ in 0..1 + chance.below(2) {
             match chance.below(3) {
@@ -247,6 +252,9 @@ fn rewrite(chance: &mut Chance, seen: &mut Seen) {
     let most = if chance.one_in(32) { 60 } else { 12 };
     let mut input = some_annotated(chance, most);
     let mut query = some_query(chance, CURATORS_QUERY, 100);
+    let labels = Labels::drawn(chance);
+    labels.on(&mut input);
+    labels.in_table(&mut query);
     if to_break(chance, false) {
         for _ in 0..1 + chance.below(2) {
             match chance.below(3) {
@@ -273,6 +281,9 @@ fn curators_answer(chance: &mut Chance, seen: &mut Seen) {
     let (roll, great) = some_roll(chance, LABELS, 200);
     let mut input = Annotated { roll, ..some_annotated(chance, 1) };
     let mut query = some_query(chance, CURATORS_QUERY, 40);
+    let labels = Labels::drawn(chance);
+    labels.on(&mut input);
+    labels.in_table(&mut query);
     if to_break(chance, great) {
         for _ in 0..1 + chance.below(2) {
             match chance.below(4) {

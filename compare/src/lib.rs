@@ -5,6 +5,7 @@ pub mod annotated;
 pub mod chance;
 pub mod damage;
 pub mod draws;
+pub mod labels;
 pub mod outcomes;
 pub mod records;
 pub mod same;

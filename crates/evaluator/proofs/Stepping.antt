@@ -7,8 +7,7 @@ use mathlib.Core.List.{List}
 use lib.ListN.{length}
 use Rattle.tree.specs.Tree.{Tree, InOrder}
 use Rattle.query.specs.Syntax.{Path, either}
-use Rattle.query.specs.Meaning.{Star, stop, reach}
-use Rattle.query.proofs.Closure.{star-more}
+use Rattle.query.specs.Meaning.{Star, reach}
 use Rattle.sets.specs.Sets.{In, Holds, Image, Inside}
 use Rattle.steps.specs.Axis.{AlongAny}
 use Rattle.steps.specs.Star.{StepFrom}
@@ -17,7 +16,7 @@ use Rattle.steps.proofs.Axes.{any-node, any-end}
 use Rattle.evaluator.specs.declared.ways.Way.the-variants.{Along}
 use Rattle.evaluator.specs.Evaluator.{Then, Covers}
 use Rattle.evaluator.specs.Ways.{Leads}
-use Rattle.evaluator.proofs.Images.{Stays, image-inside, image-star, star-stays}
+use Rattle.evaluator.proofs.Images.{Stays, image-star}
 use Rattle.evaluator.proofs.Filtered.{From}
 
 -- a choice of paths that lead along axes leads along the axes of either
@@ -54,17 +53,6 @@ module _ {t : Tree} (o : InOrder t) (most : length t ≤ 4096) where
       closed = λ i j x l. every .exact j .1 (rw e (any-end t o l));
     },
     λ k x. rw e at (every .exact k .0 x),
-  )
-
-  -- and so does what the steps alone reach
-  pub reached-covers : {axes : Axes} {from all : List ℕ} → Image (Star (AlongAny t axes)) from all → Inside (length t) from
-      → Covers (AlongAny t axes) from all × Inside (length t) all
-  reached-covers reached inside = (
-    record {
-      start = λ i x. reached .exact i .1 (i, x, stop);
-      closed = λ i j x l. let (k, y, s) = reached .exact i .0 x in reached .exact j .1 (k, y, star-more s l);
-    },
-    image-inside (star-stays steps-stay) inside reached,
   )
 
 -- of one path and then another, either may be put for axes along which it leads

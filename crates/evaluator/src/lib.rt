@@ -1,15 +1,16 @@
 // Paths and filters on sets of nodes: a path takes a set to its image, and a filter narrows a set to the nodes where it holds. The two
 // call each other, and the entry number falls. Of one filter, of number `known`, the nodes where it holds may be known beforehand.
+mod at_hand;
 mod course;
-mod cover;
 mod ways;
 
+use at_hand::stays_at_hand;
 pub use course::Course;
 use course::axis_of;
 use course::first_of;
 use course::is_free;
 use course::way;
-use cover::cover;
+use roll::count;
 use sets::below;
 use sets::common;
 use sets::difference;
@@ -22,7 +23,7 @@ use steps::labelled;
 use steps::only;
 use steps::step;
 use tables::entry::entry_at;
-use tables::entry::kind_at;
+use ways::DEEP;
 use ways::Way;
 use ways::way_of;
 ghost use mathlib.Core.Path.{_≡_};
@@ -35,9 +36,6 @@ ghost use Rattle.sets.specs.Sets.{Image, Narrowed};
 ghost use Rattle.steps.specs.Axis.{AlongAny};
 ghost use Rattle.evaluator.specs.Course.{facing};
 ghost use Rattle.evaluator.specs.Evaluator.{Knowing, Asked, Then, Still};
-
-// "Stay if the filter holds."
-const STAY: usize = 6;
 
 // What the path of entry e reaches from a set of nodes, on the course given.
 pub fn image(
@@ -118,7 +116,7 @@ fn star(
             from,
         ),
         _ => {
-            let way = way_of(table, e, course);
+            let way = way_of(table, e, course, DEEP);
             match way {
                 Way::Along(axes) => closure(roll, next, prior, axes, below(4096), from),
                 Way::Otherwise => by_rounds(roll, next, prior, table, known, held, e, course, from),
@@ -127,8 +125,8 @@ fn star(
     }
 }
 
-// The star of entry e, which is one path and then another: where one of the two is a filter and the other leads along axes, the filter is
-// asked once.
+// The star of entry e, which is one path and then another: where one of the two is a filter at hand and the other leads along axes, it goes
+// on from each node once.
 fn of_two(
     roll: &[u8],
     next: &[u16; 4096],
@@ -147,8 +145,8 @@ fn of_two(
     let entry = entry_at(table, e);
     let first = first_of(course, entry.left, entry.right);
     let second = first_of(course, entry.right, entry.left);
-    if kind_at(table, first) == STAY {
-        let way = way_of(table, second, course);
+    if stays_at_hand(table, known, first) {
+        let way = way_of(table, second, course, DEEP);
         if let Way::Along(axes) = way {
             return filter_first(
                 roll,
@@ -164,8 +162,8 @@ fn of_two(
             );
         }
     } else {
-        if kind_at(table, second) == STAY {
-            let way = way_of(table, first, course);
+        if stays_at_hand(table, known, second) {
+            let way = way_of(table, first, course, DEEP);
             if let Way::Along(axes) = way {
                 return filter_last(
                     roll,
@@ -185,7 +183,7 @@ fn of_two(
     by_rounds(roll, next, prior, table, known, held, e, course, from)
 }
 
-// The star of the filter of entry e and then a step along the axes: the filter is asked once.
+// The star of the filter of entry e and then a step along the axes. One go may add nothing; else the filter is asked of all nodes at once.
 fn filter_first(
     roll: &[u8],
     next: &[u16; 4096],
@@ -207,7 +205,7 @@ fn filter_first(
     if is_empty(difference(reached, from)) {
         return from;
     }
-    let all = cover(roll, next, prior, table, known, e, axes, from);
+    let all = below(count(roll));
     let sources = image(roll, next, prior, table, known, held, e, course, all);
     closure(roll, next, prior, axes, sources, from)
 }
@@ -234,7 +232,7 @@ fn filter_last(
     if is_empty(difference(reached, from)) {
         return from;
     }
-    let all = cover(roll, next, prior, table, known, e, axes, begun);
+    let all = below(count(roll));
     let sources = image(roll, next, prior, table, known, held, e, course, all);
     let ends = closure(roll, next, prior, axes, sources, begun);
     union(from, common(ends, sources))

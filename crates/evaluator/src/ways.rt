@@ -32,8 +32,11 @@ fn either(one: Way, other: Way) -> Way
     Way::Along(both(a, b))
 }
 
-// The axes along which the path of entry e leads, if it is one step along an axis or a choice of such steps.
-pub(crate) fn way_of(table: &[u8], e: usize, course: Course) -> Way
+// How deep choices may stand in one another for their axes to be looked for: there are four axes, and shared entries must not unfold.
+pub(crate) const DEEP: usize = 8;
+
+// The axes along which the path of entry e leads, if it is one step along an axis or a choice of such steps, `deep` in one another at most.
+pub(crate) fn way_of(table: &[u8], e: usize, course: Course, deep: usize) -> Way
     requires { ⌜ InOrder (now table) × Within (now table) path e ⌝ }
     ensures { λ r. ⌜ Leads (facing course (pathAt (entries (now (table .entry))) e)) r ⌝ }
 {
@@ -42,8 +45,11 @@ pub(crate) fn way_of(table: &[u8], e: usize, course: Course) -> Way
     match kind {
         2 | 3 | 4 | 5 => Way::Along(only(way(axis_of(kind), course))),
         8 => {
-            let one = way_of(table, entry.left, course);
-            let other = way_of(table, entry.right, course);
+            if deep == 0 {
+                return Way::Otherwise;
+            }
+            let one = way_of(table, entry.left, course, deep - 1);
+            let other = way_of(table, entry.right, course, deep - 1);
             either(one, other)
         }
         _ => Way::Otherwise,

@@ -1,5 +1,5 @@
--- `filter_first`, as a member of the cycle of calls: one go adds nothing, or the filter is asked of a set that covers the
--- star. Assumes nothing.
+-- `filter_first`, as a member of the cycle of calls: one go adds nothing, or the filter is asked of all nodes.
+-- Assumes nothing.
 use Prim.Native.Nat.{ℕ, _*_, _<_}
 use native.Mathlib.Omega.{arith}
 use mathlib.Core.Path.{sym, subst}
@@ -15,16 +15,17 @@ use Rattle.query.specs.Meaning.{Star}
 use Rattle.sets.specs.Sets.{Image, Inside}
 use Rattle.links.specs.Links.{Siblings}
 use Rattle.steps.specs.Axis.{AlongAny}
-use Rattle.evaluator.specs.Evaluator.{Knowing, Asked}
+use Rattle.evaluator.specs.Evaluator.{Knowing, Asked, Covers}
 use Rattle.evaluator.proofs.Filtered.{filtered-first}
 use Rattle.evaluator.proofs.Images.{image-inside, image-star, image-then}
 use Rattle.evaluator.proofs.Rounds.{no-round}
-use Rattle.evaluator.proofs.Stepping.{steps-stay, step-from}
+use Rattle.evaluator.proofs.Stepping.{steps-stay, step-from, every-covers}
 use Rattle.evaluator.proofs.+by_rounds+filter_first+filter_last+image+narrow+of_two+star.Proof.Measures.{filter-first-at, image-below}
 use Rattle.evaluator.proofs.+by_rounds+filter_first+filter_last+image+narrow+of_two+star.Lts-filter_first as lts
 use Rattle.evaluator.proofs.image.Reads as image
 use Rattle.evaluator.proofs.filter_first.Reads as filter-first
-use Rattle.evaluator.proofs.cover.cover.Reads as cover
+use Rattle.roll.proofs.count.Reads as count
+use Rattle.sets.proofs.below.Reads as below
 use Rattle.steps.proofs.closure.Reads as closure
 use Rattle.steps.proofs.step.Reads as step
 use Rattle.sets.proofs.difference.Reads as difference
@@ -32,7 +33,7 @@ use Rattle.sets.proofs.is_empty.Reads as is-empty
 
 -- what its callees ask and say
 abbrev pub claims : ℕ → lts.Claims
-claims t = (image-below t, image.Post, step.Asked, step.Learnt, difference.Asked, difference.Learnt, is-empty.Asked, is-empty.Learnt, cover.Asked, cover.Learnt, closure.Asked, closure.Learnt)
+claims t = (image-below t, image.Post, step.Asked, step.Learnt, difference.Asked, difference.Learnt, is-empty.Asked, is-empty.Learnt, count.Asked, count.Learnt, below.Asked, below.Learnt, closure.Asked, closure.Learnt)
 
 module _ (t : ℕ) where
   -- what it was given
@@ -71,21 +72,33 @@ module _ (t : ℕ) where
       no-round (image-then (gone .before .image .ensures) (gone .step .ensures)) (fresh .difference .ensures)
       (tested .is-empty .ensures .0 (subst T (sym (c .if1 .taken)) tt))
 
-  -- or the filter is asked of a set that covers the star
-  pub cover-requires : lts.Need-cover-requires (claims t) (filter-first-at t) filter-first.Post
-  cover-requires c κs = let s = c .before .before .before .before .before .before .before in (rolled s, asked s .nodes-only)
+  -- or the filter is asked of all nodes
+  pub count-requires : lts.Need-count-requires (claims t) (filter-first-at t) filter-first.Post
+  count-requires c κs = search needs
+
+  pub below-requires : lts.Need-below-requires (claims t) (filter-first-at t) filter-first.Post
+  below-requires c κs =
+      let s = c .before .before .before .before .before .before .before .before in
+      rw (c .count .ensures) (roll-most (given s .grounds .roll-right))
+
+  -- all nodes cover the star
+  covered : (c : lts.After-below (claims t) (filter-first-at t) filter-first.Post) → let s = c .before .before .before .before .before .before .before .before .before in
+      Covers (AlongAny (tree s) (s .args .axes)) (s .args .from) (c .below .result) × Inside (length (tree s)) (c .below .result)
+  covered c =
+      let s = c .before .before .before .before .before .before .before .before .before in
+      let g = given s .grounds .roll-right in
+      every-covers (roll-in-order g) (roll-most g) (c .before .count .ensures) (c .below .ensures) (asked s .nodes-only)
 
   pub image-requires-2 : lts.Need-image-requires-2 (claims t) (filter-first-at t) filter-first.Post
   image-requires-2 c κs =
-      let s = c .before .before .before .before .before .before .before .before in
-      (omega (arith, s .pre .0), (given s, record { entry = asked s .entry; nodes-only = c .cover .ensures .1 }))
+      let s = c .before .before .before .before .before .before .before .before .before in
+      (omega (arith, s .pre .0), (given s, record { entry = asked s .entry; nodes-only = covered c .1 }))
 
   pub closure-requires : lts.Need-closure-requires (claims t) (filter-first-at t) filter-first.Post
-  closure-requires c κs = rolled (c .before .before .before .before .before .before .before .before .before)
+  closure-requires c κs = rolled (c .before .before .before .before .before .before .before .before .before .before)
 
   pub returns-2 : lts.Need-returns-2 (claims t) (filter-first-at t) filter-first.Post
   returns-2 c =
       let held = c .before in
-      let covered = held .before in
-      let s = covered .before .before .before .before .before .before .before .before in
-      filtered-first (s .pre .1 .1 (tree s)) (covered .cover .ensures .0) (held .image2 .ensures) (image-star step-from (c .closure .ensures))
+      let s = held .before .before .before .before .before .before .before .before .before .before in
+      filtered-first (s .pre .1 .1 (tree s)) (covered (held .before) .0) (held .image2 .ensures) (image-star step-from (c .closure .ensures))

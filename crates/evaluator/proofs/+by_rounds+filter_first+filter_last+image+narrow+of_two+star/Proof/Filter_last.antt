@@ -1,5 +1,5 @@
--- `filter_last`, as a member of the cycle of calls: the first step is taken, the filter is asked of a set that covers the star from there,
--- and it holds at the end. Assumes nothing.
+-- `filter_last`, as a member of the cycle of calls: the first step is taken, the filter is asked of all nodes, and it holds at the
+-- end. Assumes nothing.
 use Prim.Native.Nat.{ℕ, _*_, _<_}
 use native.Mathlib.Omega.{arith}
 use mathlib.Core.Path.{sym, subst}
@@ -15,17 +15,18 @@ use Rattle.query.specs.Meaning.{Star}
 use Rattle.sets.specs.Sets.{Image, Inside}
 use Rattle.links.specs.Links.{Siblings}
 use Rattle.steps.specs.Axis.{AlongAny}
-use Rattle.evaluator.specs.Evaluator.{Knowing, Asked}
+use Rattle.evaluator.specs.Evaluator.{Knowing, Asked, Covers}
 use Rattle.evaluator.proofs.Filtered.{filtered-last}
 use Rattle.evaluator.proofs.Images.{image-inside, image-star, image-then}
 use Rattle.evaluator.proofs.Rounds.{no-round}
-use Rattle.evaluator.proofs.Stepping.{steps-stay, step-from}
+use Rattle.evaluator.proofs.Stepping.{steps-stay, step-from, every-covers}
 use Rattle.evaluator.proofs.+by_rounds+filter_first+filter_last+image+narrow+of_two+star.Proof.Measures.{filter-last-at, image-below}
 use Rattle.evaluator.proofs.+by_rounds+filter_first+filter_last+image+narrow+of_two+star.Lts-filter_last as lts
 use Rattle.evaluator.proofs.image.Reads as image
 use Rattle.evaluator.proofs.filter_last.Reads as filter-last
 use Rattle.steps.proofs.step.Reads as step
-use Rattle.evaluator.proofs.cover.cover.Reads as cover
+use Rattle.roll.proofs.count.Reads as count
+use Rattle.sets.proofs.below.Reads as below
 use Rattle.steps.proofs.closure.Reads as closure
 use Rattle.sets.proofs.difference.Reads as difference
 use Rattle.sets.proofs.is_empty.Reads as is-empty
@@ -34,7 +35,7 @@ use Rattle.sets.proofs.union.Reads as union
 
 -- what its callees ask and say
 abbrev pub claims : ℕ → lts.Claims
-claims t = (step.Asked, step.Learnt, image-below t, image.Post, difference.Asked, difference.Learnt, is-empty.Asked, is-empty.Learnt, cover.Asked, cover.Learnt, closure.Asked, closure.Learnt, common.Asked, common.Learnt, union.Asked, union.Learnt)
+claims t = (step.Asked, step.Learnt, image-below t, image.Post, difference.Asked, difference.Learnt, is-empty.Asked, is-empty.Learnt, count.Asked, count.Learnt, below.Asked, below.Learnt, closure.Asked, closure.Learnt, common.Asked, common.Learnt, union.Asked, union.Learnt)
 
 module _ (t : ℕ) where
   -- what it was given
@@ -82,19 +83,31 @@ module _ (t : ℕ) where
       no-round (image-then (gone .before .step .ensures) (gone .image .ensures)) (fresh .difference .ensures)
       (tested .is-empty .ensures .0 (subst T (sym (c .if1 .taken)) tt))
 
-  -- or the filter is asked of a set that covers the star from there
-  pub cover-requires : lts.Need-cover-requires (claims t) (filter-last-at t) filter-last.Post
-  cover-requires c κs =
-      let begun = c .before .before .before .before in
-      (rolled (begun .before .before .before), begun-inside begun)
+  -- or the filter is asked of all nodes
+  pub count-requires : lts.Need-count-requires (claims t) (filter-last-at t) filter-last.Post
+  count-requires c κs = search needs
+
+  pub below-requires : lts.Need-below-requires (claims t) (filter-last-at t) filter-last.Post
+  below-requires c κs =
+      let s = c .before .before .before .before .before .before .before .before in
+      rw (c .count .ensures) (roll-most (given s .grounds .roll-right))
+
+  -- all nodes cover the star from there
+  covered : (c : lts.After-below (claims t) (filter-last-at t) filter-last.Post) → let begun = c .before .before .before .before .before .before in
+      let s = begun .before .before .before in
+      Covers (AlongAny (tree s) (s .args .axes)) (begun .step .result) (c .below .result) × Inside (length (tree s)) (c .below .result)
+  covered c =
+      let begun = c .before .before .before .before .before .before in
+      let g = given (begun .before .before .before) .grounds .roll-right in
+      every-covers (roll-in-order g) (roll-most g) (c .before .count .ensures) (c .below .ensures) (begun-inside begun)
 
   pub image-requires-2 : lts.Need-image-requires-2 (claims t) (filter-last-at t) filter-last.Post
   image-requires-2 c κs =
-      let s = c .before .before .before .before .before .before .before .before in
-      (omega (arith, s .pre .0), (given s, record { entry = asked s .entry; nodes-only = c .cover .ensures .1 }))
+      let s = c .before .before .before .before .before .before .before .before .before in
+      (omega (arith, s .pre .0), (given s, record { entry = asked s .entry; nodes-only = covered c .1 }))
 
   pub closure-requires : lts.Need-closure-requires (claims t) (filter-last-at t) filter-last.Post
-  closure-requires c κs = rolled (c .before .before .before .before .before .before .before .before .before)
+  closure-requires c κs = rolled (c .before .before .before .before .before .before .before .before .before .before)
 
   pub common-requires : lts.Need-common-requires (claims t) (filter-last-at t) filter-last.Post
   common-requires c κs = search needs
@@ -106,8 +119,7 @@ module _ (t : ℕ) where
   returns-2 c =
       let ends = c .before .before in
       let held = ends .before in
-      let covered = held .before in
-      let begun = covered .before .before .before .before .before in
+      let begun = held .before .before .before .before .before .before .before in
       let s = begun .before .before .before in
-      filtered-last (s .pre .1 .1 (tree s)) (begun .step .ensures) (covered .cover .ensures .0) (held .image2 .ensures)
+      filtered-last (s .pre .1 .1 (tree s)) (begun .step .ensures) (covered (held .before) .0) (held .image2 .ensures)
       (image-star step-from (ends .closure .ensures)) (c .before .common .ensures) (c .union .ensures)

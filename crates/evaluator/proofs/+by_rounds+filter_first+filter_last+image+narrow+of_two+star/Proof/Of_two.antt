@@ -1,11 +1,13 @@
--- `of_two`, as a member of the cycle of calls: one of the two is a filter and the other leads along axes, or it goes by rounds.
+-- `of_two`, as a member of the cycle of calls: one of the two is a filter at hand and the other leads along axes, or it goes by
+-- rounds.
 -- Assumes nothing.
 use Prim.Native.Nat.{ℕ, _+_, _*_, _<_}
 use native.Mathlib.Omega.{arith}
-use mathlib.Core.Path.{_≡_, sym, _∙_}
+use mathlib.Core.Path.{_≡_, sym, subst, _∙_}
 use mathlib.Core.Logic.{Iff·symm, Iff·trans}
 use borrow.Author.Needs.{needs}
 use denote.Ref.{now}
+use lib.Dec.{T}
 use Rattle.tree.specs.Tree.{Tree}
 use Rattle.roll.specs.Roll.{nodes}
 use Rattle.query.specs.Kind.{path, of}
@@ -24,12 +26,12 @@ use Rattle.evaluator.proofs.by_rounds.Reads as by-rounds
 use Rattle.evaluator.proofs.of_two.Reads as of-two
 use Rattle.tables.proofs.entry.entry_at.Reads as entry-at
 use Rattle.evaluator.proofs.course.first_of.Reads as first-of
-use Rattle.tables.proofs.entry.kind_at.Reads as kind-at
+use Rattle.evaluator.proofs.at_hand.stays_at_hand.Reads as stays-at-hand
 use Rattle.evaluator.proofs.ways.way_of.Reads as way-of
 
 -- what its callees ask and say
 abbrev pub claims : ℕ → lts.Claims
-claims t = (entry-at.Asked, entry-at.Learnt, first-of.Asked, first-of.Learnt, kind-at.Asked, kind-at.Learnt, way-of.Asked, way-of.Learnt, filter-first-below t, filter-first.Post, filter-last-below t, filter-last.Post, by-rounds-below t, by-rounds.Post)
+claims t = (entry-at.Asked, entry-at.Learnt, first-of.Asked, first-of.Learnt, stays-at-hand.Asked, stays-at-hand.Learnt, way-of.Asked, way-of.Learnt, filter-first-below t, filter-first.Post, filter-last-below t, filter-last.Post, by-rounds-below t, by-rounds.Post)
 
 module _ (t : ℕ) where
   pub entry-at-requires : lts.Need-entry-at-requires (claims t) (of-two-at t) of-two.Post
@@ -77,8 +79,8 @@ module _ (t : ℕ) where
         let (l, w) = operand-within (asked .entry) f in
         (omega (arith, start .pre .0), ((given, record { entry = w; nodes-only = asked .nodes-only }), stays-at (given .grounds .each) w is (start .args .course)))
 
-  pub kind-at-requires : lts.Need-kind-at-requires (claims t) (of-two-at t) of-two.Post
-  kind-at-requires c κs = tt
+  pub stays-at-hand-requires : lts.Need-stays-at-hand-requires (claims t) (of-two-at t) of-two.Post
+  stays-at-hand-requires c κs = tt
 
   pub way-of-requires : lts.Need-way-of-requires (claims t) (of-two-at t) of-two.Post
   way-of-requires c κs =
@@ -92,7 +94,7 @@ module _ (t : ℕ) where
   filter-first-requires c κs =
       let tested = c .before .before .before .before in
       let s = tested .before .before in
-      filtered s (parts s .one) (sym (tested .before .kind-at .ensures) ∙ tested .if1 .taken)
+      filtered s (parts s .one) (tested .before .stays-at-hand .ensures (subst T (sym (tested .if1 .taken)) tt))
 
   pub returns : lts.Need-returns (claims t) (of-two-at t) of-two.Post
   unfolding reach
@@ -108,8 +110,8 @@ module _ (t : ℕ) where
   pub enum-told : lts.Need-enum-told (claims t) (of-two-at t) of-two.Post
   enum-told c = search needs
 
-  pub kind-at-requires-2 : lts.Need-kind-at-requires-2 (claims t) (of-two-at t) of-two.Post
-  kind-at-requires-2 c κs = tt
+  pub stays-at-hand-requires-2 : lts.Need-stays-at-hand-requires-2 (claims t) (of-two-at t) of-two.Post
+  stays-at-hand-requires-2 c κs = tt
 
   pub way-of-requires-2 : lts.Need-way-of-requires-2 (claims t) (of-two-at t) of-two.Post
   way-of-requires-2 c κs =
@@ -123,7 +125,7 @@ module _ (t : ℕ) where
   filter-last-requires c κs =
       let tested = c .before .before .before .before in
       let s = tested .before .before .before .before in
-      filtered s (parts s .other) (sym (tested .before .kind-at2 .ensures) ∙ tested .if2 .taken)
+      filtered s (parts s .other) (tested .before .stays-at-hand2 .ensures (subst T (sym (tested .if2 .taken)) tt))
 
   pub returns-2 : lts.Need-returns-2 (claims t) (of-two-at t) of-two.Post
   unfolding reach

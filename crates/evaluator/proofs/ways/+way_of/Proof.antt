@@ -44,28 +44,40 @@ module _ (t : ℕ) where
     read : Read (now (start .args .table)) path (start .args .e) (c .entry-at .result)
     read = record { order = start .pre .1 .0; entry = start .pre .1 .1; fields = c .entry-at .ensures }
 
-  -- a choice of two
+  -- a choice of two, too deep or not
+  returns : lts.Need-returns (claims t) (own t) way-of.Post
+  returns c = tt
+
+  sub-way-of : lts.Need-sub-way-of (claims t) (own t) way-of.Post
+  sub-way-of c = search needs
+
   way-of-requires : lts.Need-way-of-requires (claims t) (own t) way-of.Post
   way-of-requires c κs =
-      let k = c .before in
-      let (l, w) = operand-within (read k .entry) (is-either (read k) (c .match .keys1) .0 .0) in
+      let chosen = c .before in
+      let k = chosen .before in
+      let (l, w) = operand-within (read k .entry) (is-either (read k) (chosen .match .keys1) .0 .0) in
       (rw (start k .pre .0) at l, (read k .order, w))
+
+  sub-way-of-2 : lts.Need-sub-way-of-2 (claims t) (own t) way-of.Post
+  sub-way-of-2 c = search needs
 
   way-of-requires-2 : lts.Need-way-of-requires-2 (claims t) (own t) way-of.Post
   way-of-requires-2 c κs =
-      let k = c .before .before in
-      let (l, w) = operand-within (read k .entry) (is-either (read k) (c .before .match .keys1) .0 .1) in
+      let chosen = c .before .before in
+      let k = chosen .before in
+      let (l, w) = operand-within (read k .entry) (is-either (read k) (chosen .match .keys1) .0 .1) in
       (rw (start k .pre .0) at l, (read k .order, w))
 
   either-requires : lts.Need-either-requires (claims t) (own t) way-of.Post
   either-requires c κs = search needs
 
-  returns : lts.Need-returns (claims t) (own t) way-of.Post
-  returns c =
+  returns-2 : lts.Need-returns-2 (claims t) (own t) way-of.Post
+  returns-2 c =
       let other = c .before in
       let one = other .before in
-      let k = one .before .before in
-      rw (is-either (read k) (one .before .match .keys1) .1)
+      let chosen = one .before .before in
+      let k = chosen .before in
+      rw (is-either (read k) (chosen .match .keys1) .1)
       (subst (λ (p : Path). Leads p (c .either .result)) (facing-either (start k .args .course) _ _)
       (c .either .ensures _ _ (one .way-of .ensures) (other .way-of2 .ensures)))
 
@@ -79,32 +91,35 @@ module _ (t : ℕ) where
   only-requires : lts.Need-only-requires (claims t) (own t) way-of.Post
   only-requires c κs = search needs
 
-  returns-2 : lts.Need-returns-2 (claims t) (own t) way-of.Post
-  returns-2 c =
+  returns-3 : lts.Need-returns-3 (claims t) (own t) way-of.Post
+  returns-3 c =
       let turned = c .before in
       let found = turned .before in
       let k = found .before .before .before .before in
       rw (is-axis (read k) (found .axis-of .ensures)) (λ t i j. Iff·trans (c .only .ensures t i j) (turned .way .ensures t i j))
 
   -- any other path
-  returns-3 : lts.Need-returns-3 (claims t) (own t) way-of.Post
-  returns-3 c = tt
-
   returns-4 : lts.Need-returns-4 (claims t) (own t) way-of.Post
   returns-4 c = tt
+
+  returns-5 : lts.Need-returns-5 (claims t) (own t) way-of.Post
+  returns-5 c = tt
 
 pub +way-of-spec : {M : Type 1} → statement M
 +way-of-spec =
     close μ
     (λ t. lts.spec (claims t) (own t) way-of.Post
     (entry-at-requires t)
+    (returns t)
+    (sub-way-of t)
     (way-of-requires t)
+    (sub-way-of-2 t)
     (way-of-requires-2 t)
     (either-requires t)
     (axis-of-requires t)
     (way-requires t)
     (only-requires t)
-    (returns t)
     (returns-2 t)
     (returns-3 t)
-    (returns-4 t))
+    (returns-4 t)
+    (returns-5 t))
