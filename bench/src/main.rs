@@ -50,9 +50,10 @@ fn main() {
     if let [] | ["--document"] = named[..] {
         return figures(!named.is_empty());
     }
-    for name in named {
-        let part = PARTS.iter().find(|(part, _)| *part == name);
-        let Some((_, part)) = part else { panic!("there is no part {name}: {:?}", PARTS.map(|(name, _)| name)) };
-        part();
+    let part_of = |name: &&str| PARTS.iter().find(|(part, _)| part == name);
+    if let Some(unknown) = named.iter().find(|name| part_of(name).is_none()) {
+        eprintln!("bench: there is no part {unknown}. The parts: {}; or --document alone", PARTS.map(|(name, _)| name).join(" "));
+        std::process::exit(2);
     }
+    named.iter().filter_map(part_of).for_each(|(_, part)| part());
 }
