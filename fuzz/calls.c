@@ -170,6 +170,51 @@ static void hold_curators(struct reply reply, struct part bitmap, const struct p
     free(view.bytes);
 }
 
+/* The roll comes first: calls 3, 4 and 6 refuse a bad one as call 1 does, and no other. */
+static void hold_roll_first(struct reply reply, const struct part *parts) {
+    struct reply checked = put(1, parts, (struct part){0});
+    int of_roll = reply.refusal >= KEPOLAS_ROLL_LENGTH && reply.refusal <= KEPOLAS_PARENT_FIELD;
+    hold(checked.refusal == 0 ? !of_roll : same(checked, reply), "a bad roll is refused as call 1 refuses it");
+}
+
+/* Call 5 takes and refuses what call 6 does on a root alone. */
+static void hold_as_curator(struct reply reply, const struct part *parts) {
+    static const uint8_t root[] = {1, 0, 0xff, 0xff};
+    struct part asked[PARTS] = {block_of(root, sizeof root), parts[ANNOTATION], parts[FILTERS], parts[QUERY]};
+    struct part room = marked_room(KEPOLAS_BITMAP_ROOM);
+    if (cost_of_view(asked) < COST_LIMIT) {
+        struct reply answered = put(6, asked, room);
+        hold(reply.refusal == 0 ? answered.refusal == 0 : same(answered, reply), "call 5 refuses what call 6 refuses, alike");
+    }
+    free(room.bytes);
+    free(asked[ROLL].bytes);
+}
+
+/* A text is too short or too long exactly by its length; one that is read gives a table that a curator may ask. */
+static void hold_text(struct reply reply, const struct part *parts, struct part room) {
+    size_t length = parts[QUERY].length;
+    hold((reply.refusal == KEPOLAS_TEXT_LENGTH) == (length == 0 || length > KEPOLAS_TEXT_LIMIT), "13 is given exactly by the length");
+    if (reply.refusal != 0) return;
+    struct part asked[PARTS] = {{0}, {0}, {0}, {room.bytes, KEPOLAS_ENTRY_BYTES * reply.told}};
+    struct part table = marked_room(KEPOLAS_REWRITTEN_ROOM);
+    hold(put(5, asked, table).refusal == 0, "what call 2 writes is a table for a curator");
+    free(table.bytes);
+}
+
+/* What two calls have in common. */
+static void hold_alike(unsigned call, struct reply reply, const struct part *parts, struct part room) {
+    switch (call) {
+        case 2: hold_text(reply, parts, room); break;
+        case 3: case 4: hold_roll_first(reply, parts); break;
+        case 5: hold_as_curator(reply, parts); break;
+        case 6:
+            hold_roll_first(reply, parts);
+            hold_curators(reply, room, parts);
+            break;
+        default: break;
+    }
+}
+
 static void hold_accepted(unsigned call, struct reply reply, const struct part *parts, struct part room) {
     size_t nodes = parts[ROLL].length / KEPOLAS_NODE_BYTES;
     switch (call) {
@@ -224,7 +269,7 @@ static void ask(const struct input *input) {
         hold_refusal(input->call, reply, input->parts, room);
     else
         hold_accepted(input->call, reply, input->parts, room);
-    if (input->call == 6 && reply.refusal != KEPOLAS_SHORT_ROOM) hold_curators(reply, room, input->parts);
+    if (reply.refusal != KEPOLAS_SHORT_ROOM) hold_alike(input->call, reply, input->parts, room);
     free(room.bytes);
 }
 

@@ -28,12 +28,14 @@ uint64_t __wrap_kepolas_check_roll(const uint8_t *roll, size_t roll_len, size_t 
 }
 
 /* 3: a refused text is written. 4: the place of a refusal is one too high. 5: the table is told one entry longer, and is no table. 17: a
- * text is refused by a number for tables. */
+ * text is refused by a number for tables. 20: a text is refused for its length, though it
+ * has none that is too short or too long. */
 uint64_t __wrap_kepolas_read_text(const uint8_t *text, size_t text_len, uint8_t *room, size_t room_len, size_t *told) {
     uint64_t refusal = __real_kepolas_read_text(text, text_len, room, room_len, told);
     if (mistake(3) && refusal != 0 && room_len > 0) room[0] ^= 1;
     if (mistake(4) && refusal != 0) ++*told;
     if (mistake(5) && refusal == 0) ++*told;
+    if (mistake(20) && refusal == KEPOLAS_NOT_IN_GRAMMAR) return *told = 0, KEPOLAS_TEXT_LENGTH;
     return mistake(17) && refusal == KEPOLAS_NOT_IN_GRAMMAR ? KEPOLAS_ENTRY_MALFORMED : refusal;
 }
 
@@ -45,7 +47,8 @@ static void spoil_answer(size_t roll_len, uint8_t *room, size_t room_len, size_t
     if (mistake(8) && roll_len < 8 * KEPOLAS_NODE_BYTES) room[1] |= 1, ++*told;
 }
 
-/* 16: the library is told of more room than there is, where it refuses nothing, and writes there. */
+/* 16: the library is told of more room than there is, where it refuses nothing, and writes there. 21: a bad roll is refused as if the query
+ * were too long. */
 uint64_t __wrap_kepolas_answer_on_roll(const uint8_t *roll, size_t roll_len, const uint8_t *query, size_t query_len, uint8_t *room,
                                        size_t room_len, size_t *told) {
     uint8_t own[KEPOLAS_BITMAP_ROOM];
@@ -53,6 +56,7 @@ uint64_t __wrap_kepolas_answer_on_roll(const uint8_t *roll, size_t roll_len, con
     size_t said = told_of_more ? sizeof own : room_len;
     uint64_t refusal = __real_kepolas_answer_on_roll(roll, roll_len, query, query_len, room, said, told);
     if (refusal == 0) spoil_answer(roll_len, room, room_len, told);
+    if (mistake(21) && refusal >= KEPOLAS_ROLL_LENGTH && refusal <= KEPOLAS_PARENT_FIELD) return *told = 0, KEPOLAS_QUERY_TABLE;
     return refusal;
 }
 
@@ -69,16 +73,18 @@ uint64_t __wrap_kepolas_cut_view(const uint8_t *roll, size_t roll_len, const uin
     return refusal;
 }
 
-/* 11: the filter table's first entry is written over. 12: the query is handed back as it came. */
+/* 11: the filter table's first entry is written over. 12: the query is handed back as it came. 22: an entry is refused in
+ * the place of the one before it. */
 uint64_t __wrap_kepolas_rewrite(const uint8_t *annotation, size_t annotation_len, const uint8_t *filters, size_t filters_len,
                                 const uint8_t *query, size_t query_len, uint8_t *room, size_t room_len, size_t *told) {
     size_t records = mistake(12) ? 0 : annotation_len;
     uint64_t refusal = __real_kepolas_rewrite(annotation, records, filters, filters_len, query, query_len, room, room_len, told);
     if (mistake(11) && refusal == 0 && filters_len > 0) room[0] ^= 1;
+    if (mistake(22) && refusal == KEPOLAS_ENTRY_MALFORMED && *told > 0) --*told;
     return refusal;
 }
 
-/* 13: the answer on the roll is given for hers. 14: an input that is only read is changed. */
+/* 13: the answer on the roll is given for hers. 14: an input that is only read is changed. 23: every query is refused as too long. */
 uint64_t __wrap_kepolas_curators_answer(const uint8_t *roll, size_t roll_len, const uint8_t *annotation, size_t annotation_len,
                                         const uint8_t *filters, size_t filters_len, const uint8_t *query, size_t query_len,
                                         uint8_t *room, size_t room_len, size_t *told) {
@@ -87,6 +93,7 @@ uint64_t __wrap_kepolas_curators_answer(const uint8_t *roll, size_t roll_len, co
     uint64_t refusal = __real_kepolas_curators_answer(roll, roll_len, annotation, records, filters, filters_len, query, query_len, room,
                                                       room_len, told);
     if (refusal == 0) spoil_answer(roll_len, room, room_len, told);
+    if (mistake(23) && refusal == 0) return *told = 0, KEPOLAS_QUERY_TABLE;
     return refusal;
 }
 
