@@ -1,6 +1,7 @@
 // An annotation is checked, record by record, against its filter table.
 use crate::annotation::count;
 use crate::annotation::record_at;
+use reply::RECORDS;
 use reply::Reason;
 use reply::Reply;
 use reply::refuse;
@@ -16,9 +17,6 @@ ghost use Rattle.reply.specs.Reply.{said};
 ghost use Rattle.query.specs.Table.{entries};
 ghost use Rattle.view.specs.Annotation.{records, recordAt, RecordForm, AboveLast, RecordRight};
 ghost use Rattle.checks.specs.Checks.{RecordChecked, AnnotationChecked};
-
-// An annotation has 0 to 32 records.
-const MOST_RECORDS: usize = 32;
 
 // Whether record i has two labels, ends in zero bytes and names a filter entry.
 fn form_fits(annotation: &[u8], filters: &[u8], i: usize) -> bool
@@ -62,7 +60,7 @@ fn check_record(annotation: &[u8], filters: &[u8], i: usize) -> Reply
 pub fn check_annotation(annotation: &[u8], filters: &[u8]) -> Reply
     ensures { λ r. ⌜ AnnotationChecked (now (annotation .entry)) (now (filters .entry)) (said r) ⌝ }
 {
-    if !whole(annotation, MOST_RECORDS) {
+    if !whole(annotation, RECORDS) {
         return refuse(Reason::AnnotationLength, 0);
     }
     let n = count(annotation);

@@ -1,25 +1,21 @@
 // The checks of calls that take several inputs, in the order: room, roll, filter table, annotation, query.
 // `room` is the length of the lent output.
 use crate::check::check_annotation;
+use reply::ANSWER_ENTRIES;
+use reply::ANSWER_HEIGHT;
+use reply::BITMAP_ROOM;
+use reply::CURATOR_ENTRIES;
+use reply::CURATOR_HEIGHT;
+use reply::REWRITTEN_ROOM;
 use reply::Reason;
 use reply::Reply;
 use reply::refuse;
 use roll::check_roll;
 use tables::check_filters;
 use tables::check_query;
-use tables::limits::ANSWER_ENTRIES;
-use tables::limits::ANSWER_HEIGHT;
-use tables::limits::CURATOR_ENTRIES;
-use tables::limits::CURATOR_HEIGHT;
 ghost use Rattle.reply.specs.Reply.{said};
 ghost use Rattle.checks.specs.Checks.{AnnotatedChecked, AskedChecked};
 ghost use Rattle.checks.specs.Ready.{SaidInTurn, ReadyToAnswer, ReadyToCut, ReadyToRewrite, ReadyForCurator};
-
-// "a bitmap of record numbers; room 512 bytes", and the same for view positions
-const BITMAP: usize = 512;
-
-// "Rewrite; room 6,144 bytes"
-const REWRITTEN: usize = 6144;
 
 // The filter table, then the annotation: the number of records.
 fn check_annotated(annotation: &[u8], filters: &[u8]) -> Reply
@@ -60,7 +56,7 @@ fn in_turn(first: Reply, rest: Reply) -> Reply
 pub fn ready_to_answer(room: usize, roll: &[u8], query: &[u8]) -> Reply
     ensures { λ r. ⌜ ReadyToAnswer room (now (roll .entry)) (now (query .entry)) (said r) ⌝ }
 {
-    if room < BITMAP {
+    if room < BITMAP_ROOM {
         return refuse(Reason::ShortRoom, 0);
     }
     in_turn(
@@ -83,7 +79,7 @@ pub fn ready_to_cut(room: usize, roll: &[u8], annotation: &[u8], filters: &[u8])
 pub fn ready_to_rewrite(room: usize, annotation: &[u8], filters: &[u8], query: &[u8]) -> Reply
     ensures { λ r. ⌜ ReadyToRewrite room (now (annotation .entry)) (now (filters .entry)) (now (query .entry)) (said r) ⌝ }
 {
-    if room < REWRITTEN {
+    if room < REWRITTEN_ROOM {
         return refuse(Reason::ShortRoom, 0);
     }
     check_asked(annotation, filters, query)
@@ -99,7 +95,7 @@ pub fn ready_for_curator(
 ) -> Reply
     ensures { λ r. ⌜ ReadyForCurator room (now (roll .entry)) (now (annotation .entry)) (now (filters .entry)) (now (query .entry)) (said r) ⌝ }
 {
-    if room < BITMAP {
+    if room < BITMAP_ROOM {
         return refuse(Reason::ShortRoom, 0);
     }
     in_turn(check_roll(roll), check_asked(annotation, filters, query))

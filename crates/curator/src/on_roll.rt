@@ -1,5 +1,6 @@
 // The answer on the roll, through the rewritten query.
 use answer::reached;
+use reply::REWRITTEN_ROOM;
 use rewrite::visible_entry;
 use rewrite::write_rewritten;
 ghost use Rattle.roll.specs.Roll.{Roll};
@@ -7,9 +8,6 @@ ghost use Rattle.query.specs.Fault.{curators, Query};
 ghost use Rattle.view.specs.Promise.{Seen, Annotated};
 ghost use Rattle.sets.specs.Sets.{Holds};
 ghost use Rattle.curator.specs.Through.{Through};
-
-// The bytes of 1,024 entries.
-const ROOM: usize = 6144;
 
 // The records that the rewritten query reaches from record 0: it is written into a local table, and answered on the roll. Who is visible
 // is known, and so it is not asked again in every step.
@@ -24,7 +22,7 @@ pub(crate) fn reached_through(
     requires { ⌜ Holds (Seen (now roll) (now annotation) (now filters)) (now shown) ⌝ }
     ensures { λ r. ⌜ Through (now (roll .entry)) (now (annotation .entry)) (now (filters .entry)) (now (query .entry)) r ⌝ }
 {
-    let mut table = [0u8; ROOM];
+    let mut table = [0u8; REWRITTEN_ROOM];
     let entries = write_rewritten(annotation, filters, query, &mut table);
     let visible = visible_entry(annotation, filters);
     let size = 6 * entries;

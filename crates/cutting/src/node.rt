@@ -1,12 +1,10 @@
 // The records of the view.
+use reply::NO_PARENT;
 use roll::parent_at;
 ghost use Prim.Native.Nat.{_+_, _*_, _≤_, _<_};
 ghost use lib.ListN.{length};
 ghost use Rattle.roll.specs.Roll.{nodes, Roll};
 ghost use Rattle.cutting.specs.Scan.{ParentPlace, NodePut};
-
-// "Record 0 is the root; its parent field is 65,535."
-const NONE: usize = 65535;
 
 // The parent field of record i in the view: the place of its parent.
 pub(crate) fn parent_place(roll: &[u8], places: &[u16; 4096], i: usize) -> usize
@@ -14,7 +12,7 @@ pub(crate) fn parent_place(roll: &[u8], places: &[u16; 4096], i: usize) -> usize
     ensures { λ r. ⌜ ParentPlace (nodes (now (roll .entry))) (now (places .entry)) i r × (r < 65536) ⌝ }
 {
     if i == 0 {
-        return NONE;
+        return NO_PARENT;
     }
     let all: &[u16] = places;
     all[parent_at(roll, i)] as usize

@@ -7,6 +7,7 @@ use libc::STDOUT_FILENO;
 use lines::LONGEST;
 use lines::write_line;
 use reply::Reason;
+use reply::TEXT_BYTES;
 use reply::refuse;
 ghost use Prim.Native.Nat.{_≤_, _<_};
 ghost use lib.ListN.{length};
@@ -19,7 +20,7 @@ const INPUT: usize = 65536;
 const OUTPUT: usize = 65536 + LONGEST;
 
 // A text has at most 1,024 bytes: a line with one byte more is refused, whatever follows.
-const TOO_LONG: usize = 1025;
+const TOO_LONG: usize = TEXT_BYTES + 1;
 
 // A file that cannot be opened or read gives a single line.
 pub fn unreadable() {

@@ -1,6 +1,7 @@
 // The readers of paths and filters, which call each other through brackets. Each reads from the place `at` with `depth` brackets open, and
 // writes the entries of what it reads behind the `count` entries of the table.
 use reading::Bracket;
+use reply::OPEN_BRACKETS;
 use tokens::answer::Parsed;
 use tokens::answer::closed;
 use tokens::answer::passed;
@@ -28,9 +29,6 @@ ghost use lib.ListN.{getD};
 ghost use Rattle.reading.proofs.Parts.{openingByte};
 ghost use Rattle.tokens.specs.Reading.{Ready, Follows, paths, filters, items, atoms, terms, brackets};
 ghost use Rattle.tokens.specs.Reading.{outerChain, innerChain, chains, links};
-
-// "a bracket is opened while 32 are open": no more may be open at once.
-const MOST_OPEN: usize = 32;
 
 // "path: sequences joined by `|`"
 pub fn path(text: &[u8], at: usize, depth: usize, table: &mut [u8], count: usize) -> Parsed
@@ -151,7 +149,7 @@ fn bracketed(
     requires { ⌜ Ready (now text) at (now table) count × (getD (now text) at 0 ≡ openingByte bracket) ⌝ }
     ensures { λ r. ⌜ Follows (brackets bracket) depth (now (text .entry)) at (now (table .entry)) count r (now (table .exit)) ⌝ }
 {
-    if depth >= MOST_OPEN {
+    if depth >= OPEN_BRACKETS {
         return Parsed::Deep(at);
     }
     let inner = match bracket {

@@ -1,12 +1,14 @@
 // Call 2: a query text is read into a table of entries. The text is parsed into a local table, and the lent room is written only once
 // everything is accepted.
 use parser::path;
+use reply::CURATOR_ENTRIES;
+use reply::CURATOR_HEIGHT;
 use reply::Reason;
 use reply::Reply;
+use reply::TABLE_ROOM;
+use reply::TEXT_BYTES;
 use reply::refuse;
 use tables::check_query;
-use tables::limits::CURATOR_ENTRIES;
-use tables::limits::CURATOR_HEIGHT;
 use tokens::answer::Parsed;
 ghost use Prim.Native.Nat.{_*_, _≤_};
 ghost use lib.ListN.{length};
@@ -14,14 +16,8 @@ ghost use Rattle.reply.specs.Reply.{said};
 ghost use Rattle.text.specs.Promise.{TextLength, TextRead};
 ghost use Rattle.reader.specs.Reader.{Parses, Answered};
 
-// "room 1,536 bytes"
-const ROOM: usize = 1536;
-
-// "1 to 1,024 bytes"
-const MOST_BYTES: usize = 1024;
-
 // Two entries of six bytes for each byte of a text: no text writes more.
-const TABLE: usize = 12 * MOST_BYTES;
+const TABLE: usize = 12 * TEXT_BYTES;
 
 // Most texts are short, and a table is cleared for each text: these have one of their own.
 const SHORT_BYTES: usize = 128;
@@ -76,13 +72,13 @@ fn read_by(text: &[u8], table: &mut [u8], room: &mut [u8]) -> Reply
 pub fn read_text(text: &[u8], room: &mut [u8]) -> Reply
     ensures { λ r. ⌜ TextRead (now (text .entry)) (now (room .entry)) (said r) (now (room .exit)) ⌝ }
 {
-    if room.len() < ROOM {
+    if room.len() < TABLE_ROOM {
         return refuse(Reason::ShortRoom, 0);
     }
     if text.len() == 0 {
         return refuse(Reason::TextLength, 0);
     }
-    if text.len() > MOST_BYTES {
+    if text.len() > TEXT_BYTES {
         return refuse(Reason::TextLength, 0);
     }
     if text.len() <= SHORT_BYTES {

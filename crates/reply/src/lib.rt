@@ -1,5 +1,21 @@
 // A reply carries either a count or a refusal's number with its place. And bytes as numbers, which every record is made of.
 // Which number a reason has is said in specs/Reply.antt.
+mod limits;
+
+pub use limits::ANSWER_ENTRIES;
+pub use limits::ANSWER_HEIGHT;
+pub use limits::BITMAP_ROOM;
+pub use limits::CURATOR_ENTRIES;
+pub use limits::CURATOR_HEIGHT;
+pub use limits::FILTER_ENTRIES;
+pub use limits::FILTER_HEIGHT;
+pub use limits::NO_PARENT;
+pub use limits::NODES;
+pub use limits::OPEN_BRACKETS;
+pub use limits::RECORDS;
+pub use limits::REWRITTEN_ROOM;
+pub use limits::TABLE_ROOM;
+pub use limits::TEXT_BYTES;
 ghost use mathlib.Core.Path.{_≡_};
 ghost use Prim.Native.Nat.{_<_};
 ghost use Rattle.reply.specs.Bytes.{two};

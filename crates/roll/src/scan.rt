@@ -3,6 +3,8 @@ use crate::climb::climb;
 use crate::node::count;
 use crate::node::label_at;
 use crate::node::parent_at;
+use reply::NO_PARENT;
+use reply::NODES;
 use reply::Reason;
 use reply::Reply;
 use reply::refuse;
@@ -18,10 +20,8 @@ ghost use Rattle.tree.specs.Tree.{Label, labelAt};
 ghost use Rattle.roll.specs.Roll.{nodes, secondByte, ParentRule, NodeRight, NodeFault, RollLength};
 ghost use Rattle.roll.specs.Promise.{RollChecked};
 
-// The parent field of the root.
-const NONE: usize = 65535;
-// The bytes of 4,096 nodes.
-const LONGEST: usize = 4 * 4096;
+// The bytes of as many nodes as a roll may have.
+const LONGEST: usize = 4 * NODES;
 
 fn length_fits(roll: &[u8]) -> bool
     ensures { λ r. ⌜ T r ↔ RollLength (now (roll .entry)) ⌝ }
@@ -54,7 +54,7 @@ fn parent_fits(roll: &[u8], i: usize) -> bool
 {
     let parent = parent_at(roll, i);
     if i == 0 {
-        return parent == NONE;
+        return parent == NO_PARENT;
     }
     let before = i - 1;
     if before <= parent {

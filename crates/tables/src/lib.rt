@@ -3,7 +3,6 @@ pub mod check;
 pub mod entry;
 pub mod height;
 pub mod kinds;
-pub mod limits;
 pub mod order;
 
 pub use check::check_filters;
