@@ -12,8 +12,25 @@ use lib.Seq.{getD-take}
 use Rattle.query.specs.Syntax as syntax
 use Rattle.query.specs.Kind.{Sort, path, filter, of, Row, kinds, find, rowOf}
 use Rattle.query.specs.Table.{Entry, Entries, entryAt, rowAt, OperandField, EntryRight, HasSort, Meant, a-path, thePath, theFilter, pathIn, filterIn, build, mean, meanings, pathAt, filterAt}
-use Rattle.query.proofs.Rows.{found}
+use Rattle.query.proofs.Rows.{_&_, no-more, row-found}
 use Rattle.query.proofs.Tables.{read-at}
+
+-- A path or a filter, by its sort: of what was read, among what was read before, and of an entry.
+abbrev Part : Sort → Type 0
+Part path = syntax.Path
+Part filter = syntax.Filter
+
+abbrev partOf : (s : Sort) → Meant → Part s
+partOf path = thePath
+partOf filter = theFilter
+
+abbrev partIn : (s : Sort) → List Meant → ℕ → Part s
+partIn path = pathIn
+partIn filter = filterIn
+
+abbrev partAt : (s : Sort) → Entries → ℕ → Part s
+partAt path = pathAt
+partAt filter = filterAt
 
 -- entry i of a table is x
 module _ (es : Entries) (i : ℕ) (within : i < length es) (x : Entry) (at : entryAt es i ≡ x) where
@@ -22,13 +39,10 @@ module _ (es : Entries) (i : ℕ) (within : i < length es) (x : Entry) (at : ent
   unfolding meanings
   before = take i (meanings es)
 
-  path-before : (n : ℕ) → n < i → pathIn before n ≡ pathAt es n
-  unfolding before pathIn pathAt
-  path-before n l = ap thePath (getD-take i (meanings es) n (a-path syntax.self) l)
-
-  filter-before : (n : ℕ) → n < i → filterIn before n ≡ filterAt es n
-  unfolding before filterIn filterAt
-  filter-before n l = ap theFilter (getD-take i (meanings es) n (a-path syntax.self) l)
+  part-before : (s : Sort) (n : ℕ) → n < i → partIn s before n ≡ partAt s es n
+  unfolding before pathIn pathAt filterIn filterAt
+  part-before path n l = ap thePath (getD-take i (meanings es) n (a-path syntax.self) l)
+  part-before filter n l = ap theFilter (getD-take i (meanings es) n (a-path syntax.self) l)
 
   module _ (kind : ℕ) (row : Row) (listed : rowOf kind ≡ some row) (is : x .kind ≡ kind) where
     -- an entry of a listed kind means what its kind builds
@@ -48,7 +62,11 @@ module _ (es : Entries) (i : ℕ) (within : i < length es) (x : Entry) (at : ent
     unfolding filterAt filterIn
     filter-stands = ap theFilter meant
 
-    -- its operands are as its row says
+    part-stands : (s : Sort) → partAt s es i ≡ partOf s (build before (row .kind) x)
+    part-stands path = path-stands
+    part-stands filter = filter-stands
+
+    -- Its operands are as its row says, and it stands for what its kind makes of what they stand for.
     module _ (right : EntryRight es i) where
       same-row : right .row ≡ row
       unfolding rowAt
@@ -60,63 +78,63 @@ module _ (es : Entries) (i : ℕ) (within : i < length es) (x : Entry) (at : ent
       right-operand : OperandField es i (row .right) (x .right)
       right-operand = rw (← same-row, ← at) (right .right)
 
-  -- The kinds with operands: the operands are in order, and what the entry stands for is made of what they stand for.
+      one-operand : {s : Sort} (r : Sort) (make : Part s → Part r) → row .left ≡ of s
+          → partOf r (build before (row .kind) x) ≡ make (partIn s before (x .left))
+          → OperandField es i (of s) (x .left) × (partAt r es i ≡ make (partAt s es (x .left)))
+      unfolding OperandField
+      one-operand {s} r make takes made =
+          let l : OperandField es i (of s) (x .left) = rw takes at left-operand in
+          (l, part-stands r ∙ made ∙ ap make (part-before s (x .left) (l .0)))
+
+      two-operands : {s : Sort} (r : Sort) (make : Part s → Part s → Part r) → row .left ≡ of s → row .right ≡ of s
+          → partOf r (build before (row .kind) x) ≡ make (partIn s before (x .left)) (partIn s before (x .right))
+          → (OperandField es i (of s) (x .left) × OperandField es i (of s) (x .right))
+          × (partAt r es i ≡ make (partAt s es (x .left)) (partAt s es (x .right)))
+      unfolding OperandField
+      two-operands {s} r make takes also made =
+          let left : OperandField es i (of s) (x .left) = rw takes at left-operand in
+          let behind : OperandField es i (of s) (x .right) = rw also at right-operand in (
+            (left, behind),
+            part-stands r ∙ made ∙ ap₂ make (part-before s (x .left) (left .0)) (part-before s (x .right) (behind .0)),
+          )
+
+  -- the kinds with operands, by their numbers
   module _ (right : EntryRight es i) where
     -- both operands are earlier entries of the sort
     abbrev pub Both : Sort → Type 0
     Both s = OperandField es i (of s) (x .left) × OperandField es i (of s) (x .right)
 
     pub stay-stands : x .kind ≡ 6 → OperandField es i (of filter) (x .left) × (pathAt es i ≡ syntax.stay (filterAt es (x .left)))
-    unfolding OperandField thePath build kinds find
-    stay-stands is =
-        let l = left-operand 6 _ refl is right in
-        (l, path-stands 6 _ refl is ∙ ap syntax.stay (filter-before (x .left) (l .0)))
+    unfolding thePath build kinds find
+    stay-stands is = one-operand 6 _ refl is right path syntax.stay refl refl
 
     pub then-stands : x .kind ≡ 7 → Both path × (pathAt es i ≡ syntax.then (pathAt es (x .left)) (pathAt es (x .right)))
-    unfolding OperandField thePath build kinds find
-    then-stands is =
-        let l = left-operand 7 _ refl is right in
-        let r = right-operand 7 _ refl is right in
-        ((l, r), path-stands 7 _ refl is ∙ ap₂ syntax.then (path-before (x .left) (l .0)) (path-before (x .right) (r .0)))
+    unfolding thePath build kinds find
+    then-stands is = two-operands 7 _ refl is right path syntax.then refl refl refl
 
     pub either-stands : x .kind ≡ 8 → Both path × (pathAt es i ≡ syntax.either (pathAt es (x .left)) (pathAt es (x .right)))
-    unfolding OperandField thePath build kinds find
-    either-stands is =
-        let l = left-operand 8 _ refl is right in
-        let r = right-operand 8 _ refl is right in
-        ((l, r), path-stands 8 _ refl is ∙ ap₂ syntax.either (path-before (x .left) (l .0)) (path-before (x .right) (r .0)))
+    unfolding thePath build kinds find
+    either-stands is = two-operands 8 _ refl is right path syntax.either refl refl refl
 
     pub star-stands : x .kind ≡ 9 → OperandField es i (of path) (x .left) × (pathAt es i ≡ syntax.star (pathAt es (x .left)))
-    unfolding OperandField thePath build kinds find
-    star-stands is =
-        let l = left-operand 9 _ refl is right in
-        (l, path-stands 9 _ refl is ∙ ap syntax.star (path-before (x .left) (l .0)))
+    unfolding thePath build kinds find
+    star-stands is = one-operand 9 _ refl is right path syntax.star refl refl
 
     pub leads-stands : x .kind ≡ 17 → OperandField es i (of path) (x .left) × (filterAt es i ≡ syntax.leads (pathAt es (x .left)))
-    unfolding OperandField theFilter build kinds find
-    leads-stands is =
-        let l = left-operand 17 _ refl is right in
-        (l, filter-stands 17 _ refl is ∙ ap syntax.leads (path-before (x .left) (l .0)))
+    unfolding theFilter build kinds find
+    leads-stands is = one-operand 17 _ refl is right filter syntax.leads refl refl
 
     pub not-stands : x .kind ≡ 20 → OperandField es i (of filter) (x .left) × (filterAt es i ≡ syntax.not (filterAt es (x .left)))
-    unfolding OperandField theFilter build kinds find
-    not-stands is =
-        let l = left-operand 20 _ refl is right in
-        (l, filter-stands 20 _ refl is ∙ ap syntax.not (filter-before (x .left) (l .0)))
+    unfolding theFilter build kinds find
+    not-stands is = one-operand 20 _ refl is right filter syntax.not refl refl
 
     pub and-stands : x .kind ≡ 21 → Both filter × (filterAt es i ≡ syntax.and (filterAt es (x .left)) (filterAt es (x .right)))
-    unfolding OperandField theFilter build kinds find
-    and-stands is =
-        let l = left-operand 21 _ refl is right in
-        let r = right-operand 21 _ refl is right in
-        ((l, r), filter-stands 21 _ refl is ∙ ap₂ syntax.and (filter-before (x .left) (l .0)) (filter-before (x .right) (r .0)))
+    unfolding theFilter build kinds find
+    and-stands is = two-operands 21 _ refl is right filter syntax.and refl refl refl
 
     pub or-stands : x .kind ≡ 22 → Both filter × (filterAt es i ≡ syntax.or (filterAt es (x .left)) (filterAt es (x .right)))
-    unfolding OperandField theFilter build kinds find
-    or-stands is =
-        let l = left-operand 22 _ refl is right in
-        let r = right-operand 22 _ refl is right in
-        ((l, r), filter-stands 22 _ refl is ∙ ap₂ syntax.or (filter-before (x .left) (l .0)) (filter-before (x .right) (r .0)))
+    unfolding theFilter build kinds find
+    or-stands is = two-operands 22 _ refl is right filter syntax.or refl refl refl
 
 -- The kinds of paths are 1 to 9, those of filters 16 to 22: so it is of each row of the list.
 unfoldable inRange : Sort → ℕ → Bool
@@ -132,8 +150,8 @@ module _ (es : Entries) (i : ℕ) where
   unfolding rowAt kinds inRange
   in-range h =
       let (t, n) =
-      found (λ row. T (inRange (row .sort) (row .number))) (entryAt es i .kind) kinds
-      (tt, (tt, (tt, (tt, (tt, (tt, (tt, (tt, (tt, (tt, (tt, (tt, (tt, (tt, (tt, (tt, tt)))))))))))))))) (h .listed) in
+      row-found (λ row. T (inRange (row .sort) (row .number)))
+      (tt & tt & tt & tt & tt & tt & tt & tt & tt & tt & tt & tt & tt & tt & tt & tt & no-more) (h .listed) in
       rw (h .sort, n) at t
 
   pub path-kind : HasSort es i path → (1 ≤ entryAt es i .kind) × (entryAt es i .kind ≤ 9)

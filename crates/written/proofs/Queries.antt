@@ -9,9 +9,9 @@ use lib.ListN.{length, getD, length-map, length-append, List·getD-map, List·ge
 use lib.Seq.{getD-at}
 use Rattle.query.specs.Syntax as syntax
 use Rattle.query.specs.Syntax.{Path, Filter}
-use Rattle.query.specs.Kind.{Sort, Operand, unused, of, Kind, self, child, parent, next, previous, stay, then, either, star, labelled, leads, always, never, not, and, or, Row, kinds, rowOf}
+use Rattle.query.specs.Kind.{Sort, Operand, unused, of, Row, kinds, rowOf}
 use Rattle.query.specs.Table.{Entry, Entries, entryAt, rowAt, HasSort, OperandField, EntryRight, readOn, height, heightAt, Meant, a-path, a-filter, thePath, theFilter, pathIn, filterIn, build, mean, meanings}
-use Rattle.query.proofs.Rows.{rowFor, row-found}
+use Rattle.query.proofs.Rows.{Each, _&_, no-more, row-found}
 use Rattle.query.proofs.Tables.{read-length, read-append, read-prefix}
 use Rattle.rewriting.proofs.Rewriting.{rewritten, rewrittenFilter}
 use Rattle.written.specs.Written.{raise, axisRow, chosen, viewEntry}
@@ -53,46 +53,6 @@ module _ (vis : Filter) where
     unfolding filterIn
     filter-in x = ap theFilter (carry-at x) ∙ carry-filter (getD s x nothing)
 
--- a kind that is no axis
-abbrev Plain : Kind → Type 0
-Plain self = Unit {0}
-Plain child = ⊥
-Plain parent = ⊥
-Plain next = ⊥
-Plain previous = ⊥
-Plain stay = Unit {0}
-Plain then = Unit {0}
-Plain either = Unit {0}
-Plain star = Unit {0}
-Plain labelled = Unit {0}
-Plain leads = Unit {0}
-Plain always = Unit {0}
-Plain never = Unit {0}
-Plain not = Unit {0}
-Plain and = Unit {0}
-Plain or = Unit {0}
-
--- an entry of such a kind means among rewritten things the rewriting of what it means among these
-module _ (vis : Filter) (s : List Meant) (e : Entry) where
-  built : (kind : Kind) → Plain kind → build (map (carry vis) s) kind e ≡ carry vis (build s kind e)
-  unfolding build rewritten
-  built self plain = refl
-  built child plain = absurd plain
-  built parent plain = absurd plain
-  built next plain = absurd plain
-  built previous plain = absurd plain
-  built stay plain = ap (λ (f : Filter). a-path (syntax.stay f)) (filter-in vis s (e .left))
-  built then plain = ap₂ (λ (p q : Path). a-path (syntax.then p q)) (path-in vis s (e .left)) (path-in vis s (e .right))
-  built either plain = ap₂ (λ (p q : Path). a-path (syntax.either p q)) (path-in vis s (e .left)) (path-in vis s (e .right))
-  built star plain = ap (λ (p : Path). a-path (syntax.star p)) (path-in vis s (e .left))
-  built labelled plain = refl
-  built leads plain = ap (λ (p : Path). a-filter (syntax.leads p)) (path-in vis s (e .left))
-  built always plain = refl
-  built never plain = refl
-  built not plain = ap (λ (f : Filter). a-filter (syntax.not f)) (filter-in vis s (e .left))
-  built and plain = ap₂ (λ (f g : Filter). a-filter (syntax.and f g)) (filter-in vis s (e .left)) (filter-in vis s (e .right))
-  built or plain = ap₂ (λ (f g : Filter). a-filter (syntax.or f g)) (filter-in vis s (e .left)) (filter-in vis s (e .right))
-
 -- What is written for an entry, behind a table in which the axes' rows stand.
 module _ (own shown : Filter) {c : ℕ} (d base : ℕ) {table : Entries}
     (rows : Stood c (λ x. x + d) (rowsMeant own shown) rowsHeights table) where
@@ -100,50 +60,61 @@ module _ (own shown : Filter) {c : ℕ} (d base : ℕ) {table : Entries}
   module _ (s : List Meant) (hs : List ℕ) (e : Entry)
       (stood : Stood (c + 18) (λ x. x + base) (map (carry (seenBy own shown)) s) hs table)
       (ordered : Ordered (map (carry (seenBy own shown)) s) e) where
+    abbrev seen : Filter
+    seen = seenBy own shown
+
+    abbrev things : List Meant
+    things = map (carry seen) s
+
     -- the entry written stands for x
     abbrev For : Meant → Type 0
     For x = Behind table (viewEntry d base e) x (c + 18 + height hs e)
 
+    -- so it does for an entry of a row's kind
+    abbrev Asked : Row → Type 0
+    Asked row = rowOf (e .kind) ≡ some row → e .kind ≡ row .number → For (carry seen (build s (row .kind) e))
+
+    view-of : {n : ℕ} → e .kind ≡ n → viewEntry d base e ≡ chosen d (raise base e) n
+    unfolding viewEntry
+    view-of is = ap (chosen d (raise base e)) is
+
     -- an entry that is no step along an axis keeps its kind
-    other : (kind : Kind) → Plain kind → rowOf (e .kind) ≡ some (rowFor kind) → rowFor kind .kind ≡ kind → viewEntry d base e ≡ raise base e
-        → For (carry (seenBy own shown) (build s kind e))
-    other kind plain listed same kept =
-        let things : List Meant = map (carry (seenBy own shown)) s in
-        let means : mean things e ≡ carry (seenBy own shown) (build s kind e) =
-        mean-listed things e listed ∙ ap (λ (k : Kind). build things k e) same ∙ built (seenBy own shown) s e kind plain in
-        rw (kept, ← means) (entry-behind stood ordered)
+    kept : {row : Row} → chosen d (raise base e) (row .number) ≡ raise base e
+        → build things (row .kind) e ≡ carry seen (build s (row .kind) e) → Asked row
+    kept own built listed is = rw (view-of is ∙ own, ← (mean-listed things e listed ∙ built)) (entry-behind stood ordered)
 
     -- a step along an axis becomes that axis's last row
-    along : {p : Path} (row : Entry) → viewEntry d base e ≡ raise d row → AxisRow own shown row p → For (a-path p)
-    along row same axis = rw same (behind-as (omega (arith, height-listed hs e (ordered .listed))) (axis-behind d rows axis))
+    along : {row : Row} {p : Path} (last : Entry) → chosen d (raise base e) (row .number) ≡ raise d last
+        → carry seen (build s (row .kind) e) ≡ a-path p → AxisRow own shown last p → Asked row
+    along last same built axis listed is =
+        rw (view-of is ∙ same, built) (behind-as (omega (arith, height-listed hs e (ordered .listed))) (axis-behind d rows axis))
 
-    by-kind : (kind : Kind) → rowOf (e .kind) ≡ some (rowFor kind) → e .kind ≡ rowFor kind .number
-        → For (carry (seenBy own shown) (build s kind e))
-    unfolding viewEntry chosen rowFor kinds build rewritten
-    by-kind self listed is = other self tt listed refl (ap (chosen d (raise base e)) is)
-    by-kind child listed is = along (axisRow 18) (ap (chosen d (raise base e)) is) (axis-rows own shown .down)
-    by-kind parent listed is = along (axisRow 22) (ap (chosen d (raise base e)) is) (axis-rows own shown .up)
-    by-kind next listed is = along (axisRow 44) (ap (chosen d (raise base e)) is) (axis-rows own shown .forwards)
-    by-kind previous listed is = along (axisRow 55) (ap (chosen d (raise base e)) is) (axis-rows own shown .backwards)
-    by-kind stay listed is = other stay tt listed refl (ap (chosen d (raise base e)) is)
-    by-kind then listed is = other then tt listed refl (ap (chosen d (raise base e)) is)
-    by-kind either listed is = other either tt listed refl (ap (chosen d (raise base e)) is)
-    by-kind star listed is = other star tt listed refl (ap (chosen d (raise base e)) is)
-    by-kind labelled listed is = other labelled tt listed refl (ap (chosen d (raise base e)) is)
-    by-kind leads listed is = other leads tt listed refl (ap (chosen d (raise base e)) is)
-    by-kind always listed is = other always tt listed refl (ap (chosen d (raise base e)) is)
-    by-kind never listed is = other never tt listed refl (ap (chosen d (raise base e)) is)
-    by-kind not listed is = other not tt listed refl (ap (chosen d (raise base e)) is)
-    by-kind and listed is = other and tt listed refl (ap (chosen d (raise base e)) is)
-    by-kind or listed is = other or tt listed refl (ap (chosen d (raise base e)) is)
+    by-row : Each Asked kinds
+    unfolding chosen kinds build rewritten
+    by-row =
+        kept refl refl
+        & along (axisRow 18) refl refl (axis-rows own shown .down)
+        & along (axisRow 22) refl refl (axis-rows own shown .up)
+        & along (axisRow 44) refl refl (axis-rows own shown .forwards)
+        & along (axisRow 55) refl refl (axis-rows own shown .backwards)
+        & kept refl (ap (λ (f : Filter). a-path (syntax.stay f)) (filter-in seen s (e .left)))
+        & kept refl (ap₂ (λ (p q : Path). a-path (syntax.then p q)) (path-in seen s (e .left)) (path-in seen s (e .right)))
+        & kept refl (ap₂ (λ (p q : Path). a-path (syntax.either p q)) (path-in seen s (e .left)) (path-in seen s (e .right)))
+        & kept refl (ap (λ (p : Path). a-path (syntax.star p)) (path-in seen s (e .left)))
+        & kept refl refl
+        & kept refl (ap (λ (p : Path). a-filter (syntax.leads p)) (path-in seen s (e .left)))
+        & kept refl refl
+        & kept refl refl
+        & kept refl (ap (λ (f : Filter). a-filter (syntax.not f)) (filter-in seen s (e .left)))
+        & kept refl (ap₂ (λ (f g : Filter). a-filter (syntax.and f g)) (filter-in seen s (e .left)) (filter-in seen s (e .right)))
+        & kept refl (ap₂ (λ (f g : Filter). a-filter (syntax.or f g)) (filter-in seen s (e .left)) (filter-in seen s (e .right)))
+        & no-more
 
     -- of whatever kind it is
-    pub view-behind : Behind table (viewEntry d base e) (carry (seenBy own shown) (mean s e)) (c + 18 + height hs e)
+    pub view-behind : Behind table (viewEntry d base e) (carry seen (mean s e)) (c + 18 + height hs e)
     view-behind =
-        let kind : Kind = ordered .row .kind in
-        let (is, number) = row-found (ordered .listed) in
-        let listed : rowOf (e .kind) ≡ some (rowFor kind) = ordered .listed ∙ ap some is in
-        rw (mean-listed s e (ordered .listed)) (by-kind kind listed (sym number ∙ ap (λ (o : Row). o .number) is))
+        let (stands, number) = row-found Asked by-row (ordered .listed) in
+        rw (mean-listed s e (ordered .listed)) (stands (ordered .listed) (sym number))
 
 -- What is read of a table with one entry more.
 read-more : {A : Type 0} (read : List A → Entry → A) (table : Entries) (e : Entry)

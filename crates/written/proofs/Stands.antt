@@ -4,15 +4,15 @@ use Prim.Native.Nat.{ℕ, suc, _+_, _≤_, _<_, max}
 use native.Mathlib.Nat.{max-le, le-max-left, le-max-right}
 use native.Mathlib.Decide.{decLt}
 use native.Mathlib.Omega.{arith}
-use mathlib.Core.Path.{_≡_, refl, sym, ap, ap₂, _∙_, subst}
+use mathlib.Core.Path.{_≡_, refl, sym, ap, ap₂, _∙_}
 use mathlib.Core.List.{List, [], _∷_, _++_}
 use mathlib.Core.Option.{Option, none, some}
 use lib.ListN.{length, getD, take, length-append, List·getD-append}
 use lib.Seq.{getD-at}
 use Rattle.query.specs.Syntax as syntax
-use Rattle.query.specs.Kind.{Sort, path, filter, Operand, unused, of, Kind, self, child, parent, next, previous, stay, then, either, star, labelled, leads, always, never, not, and, or, Row, kinds, rowOf}
+use Rattle.query.specs.Kind.{Sort, path, filter, Operand, unused, of, Row, kinds, rowOf}
 use Rattle.query.specs.Table.{Entry, Entries, entryAt, rowAt, HasSort, LabelField, OperandField, EntryRight, readOn, operandHeight, height, heightAt, Meant, a-path, a-filter, thePath, theFilter, pathIn, filterIn, build, mean, meanings, filterAt}
-use Rattle.query.proofs.Rows.{rowFor, row-found}
+use Rattle.query.proofs.Rows.{Each, _&_, no-more, row-found}
 use Rattle.query.proofs.Tables.{read-length, read-append, read-prefix, read-at}
 use Rattle.query.proofs.Appended.{sort-kept, right-kept, AllRight, sort-at-end, right-at-end}
 use Rattle.tables.specs.Shape.{operandNumber, leftOf, rightOf}
@@ -171,45 +171,37 @@ Carries s m (of sort) x y = getD m y nothing ≡ getD s x nothing
 
 -- so the entry means the same
 module _ (s m : List Meant) (e f : Entry) (label : f .label ≡ e .label) where
-  build-same : (kind : Kind) → Carries s m (rowFor kind .left) (e .left) (f .left)
-      → Carries s m (rowFor kind .right) (e .right) (f .right) → build m kind f ≡ build s kind e
-  unfolding build rowFor kinds pathIn filterIn
-  build-same self l r = refl
-  build-same child l r = refl
-  build-same parent l r = refl
-  build-same next l r = refl
-  build-same previous l r = refl
-  build-same stay l r = ap (λ (x : Meant). a-path (syntax.stay (theFilter x))) l
-  build-same then l r = ap₂ (λ (x y : Meant). a-path (syntax.then (thePath x) (thePath y))) l r
-  build-same either l r = ap₂ (λ (x y : Meant). a-path (syntax.either (thePath x) (thePath y))) l r
-  build-same star l r = ap (λ (x : Meant). a-path (syntax.star (thePath x))) l
-  build-same labelled l r = ap (λ (x : ℕ). a-filter (syntax.labelled x)) label
-  build-same leads l r = ap (λ (x : Meant). a-filter (syntax.leads (thePath x))) l
-  build-same always l r = refl
-  build-same never l r = refl
-  build-same not l r = ap (λ (x : Meant). a-filter (syntax.not (theFilter x))) l
-  build-same and l r = ap₂ (λ (x y : Meant). a-filter (syntax.and (theFilter x) (theFilter y))) l r
-  build-same or l r = ap₂ (λ (x y : Meant). a-filter (syntax.or (theFilter x) (theFilter y))) l r
+  abbrev Same : Row → Type 0
+  Same row = Carries s m (row .left) (e .left) (f .left) → Carries s m (row .right) (e .right) (f .right)
+      → build m (row .kind) f ≡ build s (row .kind) e
+
+  build-same : Each Same kinds
+  unfolding build kinds pathIn filterIn
+  build-same =
+      (λ l r. refl)
+      & (λ l r. refl)
+      & (λ l r. refl)
+      & (λ l r. refl)
+      & (λ l r. refl)
+      & (λ l r. ap (λ (x : Meant). a-path (syntax.stay (theFilter x))) l)
+      & (λ l r. ap₂ (λ (x y : Meant). a-path (syntax.then (thePath x) (thePath y))) l r)
+      & (λ l r. ap₂ (λ (x y : Meant). a-path (syntax.either (thePath x) (thePath y))) l r)
+      & (λ l r. ap (λ (x : Meant). a-path (syntax.star (thePath x))) l)
+      & (λ l r. ap (λ (x : ℕ). a-filter (syntax.labelled x)) label)
+      & (λ l r. ap (λ (x : Meant). a-filter (syntax.leads (thePath x))) l)
+      & (λ l r. refl)
+      & (λ l r. refl)
+      & (λ l r. ap (λ (x : Meant). a-filter (syntax.not (theFilter x))) l)
+      & (λ l r. ap₂ (λ (x y : Meant). a-filter (syntax.and (theFilter x) (theFilter y))) l r)
+      & (λ l r. ap₂ (λ (x y : Meant). a-filter (syntax.or (theFilter x) (theFilter y))) l r)
+      & no-more
 
 -- what is built has the kind's sort
-build-sort : (kind : Kind) (s : List Meant) (e : Entry) → sortFor (build s kind e) ≡ rowFor kind .sort
-unfolding build rowFor kinds
-build-sort self s e = refl
-build-sort child s e = refl
-build-sort parent s e = refl
-build-sort next s e = refl
-build-sort previous s e = refl
-build-sort stay s e = refl
-build-sort then s e = refl
-build-sort either s e = refl
-build-sort star s e = refl
-build-sort labelled s e = refl
-build-sort leads s e = refl
-build-sort always s e = refl
-build-sort never s e = refl
-build-sort not s e = refl
-build-sort and s e = refl
-build-sort or s e = refl
+build-sort : (s : List Meant) (e : Entry) {row : Row} → rowOf (e .kind) ≡ some row → sortFor (build s (row .kind) e) ≡ row .sort
+unfolding build kinds
+build-sort s e listed =
+    row-found (λ row. sortFor (build s (row .kind) e) ≡ row .sort)
+    (refl & refl & refl & refl & refl & refl & refl & refl & refl & refl & refl & refl & refl & refl & refl & refl & no-more) listed .0
 
 -- An entry at the end of a table: its operands are things that stand in the table, under their numbers there.
 module _ {c : ℕ} {to : ℕ → ℕ} {s : List Meant} {hs : List ℕ} {table : Entries} (stood : Stood c to s hs table) {e : Entry}
@@ -263,14 +255,12 @@ module _ {c : ℕ} {to : ℕ → ℕ} {s : List Meant} {hs : List ℕ} {table : 
   means-end : getD (meanings (table ++ moves ∷ [])) (length table) nothing ≡ mean s e
   unfolding moves renumber row meanings
   means-end =
-      let is : row ≡ rowFor (row .kind) = row-found (ordered .listed) .0 in
       let l = operand-carries (row .left) (e .left) (ordered .left) in
       let r = operand-carries (row .right) (e .right) (ordered .right) in
+      let same = row-found (Same s (meanings table) e moves refl) (build-same s (meanings table) e moves refl) (ordered .listed) .0 in
       at-end mean table moves nothing
       ∙ mean-listed (meanings table) moves (ordered .listed)
-      ∙ build-same s (meanings table) e moves refl (row .kind)
-      (subst (λ (o : Row). Carries s (meanings table) (o .left) (e .left) (moves .left)) is (rw moves-left l))
-      (subst (λ (o : Row). Carries s (meanings table) (o .right) (e .right) (moves .right)) is (rw moves-right r))
+      ∙ same (rw moves-left l) (rw moves-right r)
       ∙ sym (mean-listed s e (ordered .listed))
 
   -- and is no higher than it should be
@@ -290,9 +280,7 @@ module _ {c : ℕ} {to : ℕ → ℕ} {s : List Meant} {hs : List ℕ} {table : 
   pub entry-behind : Behind table (renumber to e) (mean s e) (c + height hs e)
   unfolding row moves renumber
   entry-behind =
-      let same : row .sort ≡ sortFor (mean s e) =
-      ap (λ (o : Row). o .sort) (row-found (ordered .listed) .0)
-      ∙ sym (ap sortFor (mean-listed s e (ordered .listed)) ∙ build-sort (row .kind) s e) in
+      let same : row .sort ≡ sortFor (mean s e) = sym (ap sortFor (mean-listed s e (ordered .listed)) ∙ build-sort s e (ordered .listed)) in
       record {
         right = right-end;
         stands =
@@ -312,8 +300,7 @@ module _ {table : Entries} {i : ℕ} (within : i < length table) where
       let e : Entry = entryAt table i in
       let front : List Meant = take i (meanings table) in
       ap sortFor (read-at mean table i nothing _ within ∙ mean-listed front e (has .listed))
-      ∙ build-sort (has .row .kind) front e
-      ∙ ap (λ (o : Row). o .sort) (sym (row-found (has .listed) .0))
+      ∙ build-sort front e (has .listed)
       ∙ has .sort
 
   -- a filter entry stands for its filter
