@@ -3,6 +3,7 @@
 use Prim.Native.Nat.{ℕ, pred, _≤_, _<_}
 use native.Mathlib.Omega.{arith}
 use mathlib.Core.Path.{_≡_, refl, sym, ap, ap₂, _∙_, subst}
+use mathlib.Core.Logic.{_≢_}
 use mathlib.Core.List.{[], _∷_, _++_}
 use lib.ListN.{length, getD, drop}
 use Rattle.reply.specs.declared.Reason.{Reason}
@@ -88,6 +89,11 @@ reason-of NotInGrammar = refl
 reason-of TooManyOpen = refl
 reason-of TableTooLarge = refl
 reason-of FileUnreadable = refl
+
+-- no reason has the number 0: it would be the first one, which has 1
+pub no-reason : (r : Reason) → number r ≢ 0
+unfolding reasonOf
+no-reason r e = let first : r ≡ ShortRoom = sym (reason-of r) ∙ ap reasonOf e in omega (arith, ap number first)
 
 -- "a reply carries either a count or a refusal's number with its place": two replies that say the same are equal
 pub said-one : (r s : Reply) → said r ≡ said s → r ≡ s
