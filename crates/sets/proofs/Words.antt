@@ -14,12 +14,15 @@ use lib.Arith.{digits-div, digits-mod}
 use lib.Count as Count
 use mir.Syntax.{w64}
 use mir.Val.{Fits}
-use lib.Bits.{bitAnd, bitOr, bitXor}
+use lib.Bits.{bitOr}
 use borrow.Author.Count.{below-none, below-more}
 use Rattle.sets.specs.Bits.{digit, bitOf, ones}
+use Rattle.sets.specs.declared.merge.Merge.{Merge}
+use Rattle.sets.specs.declared.merge.Merge.the-variants.{Either, Both, First}
 use Rattle.sets.specs.Sets.{In, Holds, Inside}
+use Rattle.sets.specs.Merge.{Kept}
 use Rattle.sets.proofs.Digits.{same-digit, digit-mod, digit-shr, zero-digit, none-of-zero, not-one, digits-none}
-use Rattle.sets.proofs.Digits.{or-none, put-in, and-one, or-one, minus-one}
+use Rattle.sets.proofs.Digits.{or-none, put-in}
 
 -- ---- one word
 
@@ -42,23 +45,6 @@ in-word set j k l = (λ e. record { one = bit-at 64 set j k l ∙ e }, λ m. sym
 pub member : (set : List ℕ) (k : ℕ) → In set k → digit (getD set (k / 64) 0) (k % 64) ≡ 1
 unfolding bitOf
 member set k m = m .one
-
-module _ (a b : List ℕ) (j : ℕ) where
-  pub union-word : Word 64 (λ k. In a k ⊎ In b k) j (bitOr (getD a j 0) (getD b j 0))
-  union-word = record {
-    exact = λ k l. Iff·trans (or-one (getD a j 0) (getD b j 0) k) (
-      ⊎-map (in-word a j k l .0) (in-word b j k l .0),
-      ⊎-map (in-word a j k l .1) (in-word b j k l .1),
-    );
-  }
-
-  pub common-word : Word 64 (λ k. In a k × In b k) j (bitAnd (getD a j 0) (getD b j 0))
-  common-word = record { exact = λ k l. Iff·trans (and-one (getD a j 0) (getD b j 0) k) (Iff·and (in-word a j k l) (in-word b j k l)) }
-
-  pub difference-word : Word 64 (λ k. In a k × ¬ In b k) j (bitXor (bitOr (getD a j 0) (getD b j 0)) (getD b j 0))
-  difference-word = record {
-    exact = λ k l. Iff·trans (minus-one (getD a j 0) (getD b j 0) k) (Iff·and (in-word a j k l) (Iff·not (in-word b j k l)));
-  }
 
 -- the eight bits of a set from 8 * i on
 pub byte-word : (set : List ℕ) (i : ℕ) → Word 8 (In set) i (getD set (i / 8) 0 / 2 ^ (8 * (i % 8)) % 2 ^ 8)
@@ -158,10 +144,31 @@ module _ {width : ℕ} {P : ℕ → Type 0} where
     rest = λ j h. getD-set-other words i j v 0 (λ e. omega arith) ∙ m .rest j (omega arith);
   }
 
-  -- the same where word i is made from what stands there
-  pub one-changed : {before words : List ℕ} {i : ℕ} (f : ℕ → ℕ) → Made width P before words i → i < length before
-      → Word width P i (f (getD before i 0)) → Made width P before (set words i (f (getD words i 0))) (i + 1)
-  one-changed {i = i} f m l new = one-made m l (subst (λ (n : ℕ). Word width P i (f n)) (sym (m .rest i (le-refl i))) new)
+-- ---- two sets made into one
+
+-- what is kept of equal sets is equal
+kept-same : (how : Merge) {P Q P′ Q′ : Type 0} → P ↔ P′ → Q ↔ Q′ → Kept how P Q ↔ Kept how P′ Q′
+kept-same Either f g = (⊎-map (f .0) (g .0), ⊎-map (f .1) (g .1))
+kept-same Both f g = Iff·and f g
+kept-same First f g = Iff·and f (Iff·not g)
+
+module _ (how : Merge) (a b : List ℕ) where
+  -- what is kept of 64 words is below 4096
+  pub kept-below : length a ≡ 64 → length b ≡ 64 → (k : ℕ) → Kept how (In a k) (In b k) → k < 4096
+  kept-below e f k = below how
+    where
+      below : (how : Merge) → Kept how (In a k) (In b k) → k < 4096
+      below Either m = ⊎-elim (in-below a e k) (in-below b f k) m
+      below Both (m, _) = in-below a e k m
+      below First (m, _) = in-below a e k m
+
+  -- a turn of the loop, which makes word i of the two that stand there
+  pub one-merged : (v : ℕ) {words : List ℕ} {i : ℕ} → Made 64 (λ k. Kept how (In a k) (In b k)) a words i → i < length a
+      → ((k : ℕ) → (digit v k ≡ 1) ↔ Kept how (digit (getD words i 0) k ≡ 1) (digit (getD b i 0) k ≡ 1))
+      → Made 64 (λ k. Kept how (In a k) (In b k)) a (set words i v) (i + 1)
+  one-merged v {i = i} m l new = one-made m l (record {
+    exact = λ k h. Iff·trans (rw (m .rest i (le-refl i)) at (new k)) (kept-same how (in-word a i k h) (in-word b i k h));
+  })
 
 -- after the last turn the words are the set
 pub all-made : {P : ℕ → Type 0} {before words : List ℕ} {i : ℕ} → Made 64 P before words i → length before ≡ 64 → 64 ≤ i

@@ -1,17 +1,48 @@
-// Two sets made into one. Each loop has nothing in it but the word operation, so that the compiler does several words at once.
-ghost use mathlib.Core.Logic.{_⊎_};
+// Two sets made into one. The loop has nothing in it but the word operation, so that the compiler does several words at once.
+ghost use mathlib.Core.Path.{_≡_};
+ghost use mathlib.Core.Logic.{_↔_, _⊎_};
+ghost use Prim.Native.Nat.{ℕ};
+ghost use Rattle.sets.specs.Bits.{digit};
 ghost use Rattle.sets.specs.Sets.{In, Holds};
+ghost use Rattle.sets.specs.Merge.{Kept};
+
+// What is kept: what is in either set, in both, or in the first and not in the second.
+pub enum Merge {
+    Either,
+    Both,
+    First,
+}
+
+// Two words made into one.
+fn merged(how: Merge, a: u64, b: u64) -> u64
+    ensures { λ r. ⌜ ((k : ℕ) → (digit r k ≡ 1) ↔ Kept how (digit a k ≡ 1) (digit b k ≡ 1)) ⌝ }
+{
+    match how {
+        Merge::Either => a | b,
+        Merge::Both => a & b,
+        Merge::First => (a | b) ^ b,
+    }
+}
+
+// Keeps in a set what another leaves of it, or adds to it.
+fn merge_into(how: Merge, set: &mut [u64; 64], other: &[u64; 64])
+    ensures { λ _. ⌜ Holds (λ k. Kept how (In (now (set .entry)) k) (In (now (other .entry)) k)) (now (set .exit)) ⌝ }
+{
+    let words: &mut [u64] = set;
+    let others: &[u64] = other;
+    let mut i = 0;
+    while i < 64 {
+        words[i] = merged(how, words[i], others[i]);
+        i += 1;
+    }
+}
 
 // What is in either set.
 pub fn union(a: [u64; 64], b: [u64; 64]) -> [u64; 64]
     ensures { λ r. ⌜ Holds (λ k. In a k ⊎ In b k) r ⌝ }
 {
     let mut r = a;
-    let mut i = 0;
-    while i < 64 {
-        r[i] = r[i] | b[i];
-        i += 1;
-    }
+    merge_into(Merge::Either, &mut r, &b);
     r
 }
 
@@ -20,11 +51,7 @@ pub fn common(a: [u64; 64], b: [u64; 64]) -> [u64; 64]
     ensures { λ r. ⌜ Holds (λ k. In a k × In b k) r ⌝ }
 {
     let mut r = a;
-    let mut i = 0;
-    while i < 64 {
-        r[i] = r[i] & b[i];
-        i += 1;
-    }
+    merge_into(Merge::Both, &mut r, &b);
     r
 }
 
@@ -33,10 +60,6 @@ pub fn difference(a: [u64; 64], b: [u64; 64]) -> [u64; 64]
     ensures { λ r. ⌜ Holds (λ k. In a k × ¬ In b k) r ⌝ }
 {
     let mut r = a;
-    let mut i = 0;
-    while i < 64 {
-        r[i] = (r[i] | b[i]) ^ b[i];
-        i += 1;
-    }
+    merge_into(Merge::First, &mut r, &b);
     r
 }
