@@ -1,21 +1,20 @@
 -- Numbers with a space before each: one behind others, and how long they are. Assumes nothing.
 use Prim.Native.Nat.{ℕ, zero, suc, _+_, _-_, _*_, _^_, _≤_, _<_}
-use native.Mathlib.Nat.{mul-suc}
 use native.Mathlib.Omega.{arith}
 use mathlib.Core.Path.{_≡_, refl, sym, ap, subst, _∙_}
 use mathlib.Core.Bool.{Bool, true, false, cond}
 use mathlib.Core.List.{List, [], _∷_, _++_, append-assoc, append-nil}
-use lib.Dec.{eqb, lit<}
+use lib.Dec.{eqb}
 use lib.ListN.{length, length-append}
 use Rattle.reply.specs.Bytes.{Bytes}
 use Rattle.answer.specs.Bitmap.{bit}
 use Rattle.reply.specs.Reply.{Said, count, refused, number, said}
 use Rattle.reply.specs.declared.Refusal.{Refusal}
 use Rattle.reply.specs.declared.Reply.{Reply}
-use Rattle.reply.specs.declared.Reply.the-variants.{Count, Refused}
-use Rattle.lines.specs.Line.{decimal, spaced, positions, lineOf, LineGiven}
-use Rattle.lines.specs.Put.{Put}
-use Rattle.lines.proofs.Putting.{put-none, put-written, put-fits, put-length, put-then}
+use Rattle.reply.specs.declared.Reply.the-variants.{Refused}
+use Rattle.lines.specs.Line.{decimal, spaced, positions, lineOf, LineGiven, longest}
+use Rattle.lines.specs.Put.{Put, unended, Begun}
+use Rattle.lines.proofs.Putting.{put-none, put-written, put-length, put-then}
 use Rattle.lines.proofs.Numbers.{few-digits}
 
 -- one number
@@ -76,29 +75,29 @@ spaced-positions map (suc k) l =
 
 -- ---- a line
 
--- a letter, numbers, more numbers and the line feed, one behind the other
-pub framed : {letter : ℕ} (ms ns : List ℕ) {b lettered first both after : Bytes} {to middle behind end : ℕ}
-    → length (spaced ms) + length (spaced ns) + 2 ≤ length b → Put b 0 (letter ∷ []) to lettered → Put lettered to (spaced ms) middle first
-    → Put first middle (spaced ns) behind both → Put both behind (10 ∷ []) end after
-    → Put b 0 (letter ∷ spaced (ms ++ ns) ++ 10 ∷ []) end after
-framed ms ns room w x y z =
-    rw (spaced-append ms ns)
-    (put-then (omega (arith, w .end, x .end, y .end)) (put-then (omega (arith, w .end, x .end)) (put-then (omega (arith, w .end)) w x) y) z)
+-- a letter and numbers, with more numbers behind them
+pub put-numbers : {letter : ℕ} (ms ns : List ℕ) {b first after : Bytes} {middle to : ℕ} → middle ≤ length b
+    → Put b 0 (letter ∷ spaced ms) middle first → Put first middle (spaced ns) to after → Put b 0 (letter ∷ spaced (ms ++ ns)) to after
+put-numbers ms ns fits x y = rw (spaced-append ms ns) (put-then fits x y)
 
--- what is written in front of as many bytes is the line of what is said
-given : {s : Said} {map b after : Bytes} {to : ℕ} → Put b 0 (lineOf s map) to after → length after ≡ length b → LineGiven s map b to after
-given p kept = record { count = p .end ∙ omega arith; written = put-written (put-fits p kept) p }
+-- of a reply that refuses, whose bitmap is not written
+pub refused-begun : {r : Reply} {x : Refusal} {n : ℕ} {map b after : Bytes} {to : ℕ} → r ≡ Refused x → n ≡ number (x .reason)
+    → Begun (refused n (x .place)) [] b to after → Begun (said r) map b to after
+unfolding unended
+refused-begun {x = x} {map = map} {b} {after} {to} e f begun =
+    rw e (subst (λ (n : ℕ). Begun (refused n (x .place)) map b to after) f (record { put = begun .put; room = begun .room }))
 
--- of a reply that counts, and of one that refuses
-pub counted-line : {r : Reply} {n : ℕ} {map b after : Bytes} {to : ℕ} → r ≡ Count n
-    → Put b 0 (lineOf (count n) map) to after → length after ≡ length b → LineGiven (said r) map b to after
-counted-line e p kept = rw e (given p kept)
+-- the line feed ends the line
+line-ended : (s : Said) (map : Bytes) → unended s map ++ 10 ∷ [] ≡ lineOf s map
+unfolding unended lineOf
+line-ended (count n) map = refl
+line-ended (refused n p) map = refl
 
-pub refused-line : {r : Reply} {x : Refusal} {n : ℕ} {map b after : Bytes} {to : ℕ} → r ≡ Refused x → n ≡ number (x .reason)
-    → Put b 0 (lineOf (refused n (x .place)) []) to after → length after ≡ length b → LineGiven (said r) map b to after
-unfolding lineOf
-refused-line {x = x} {map = map} {b} {after} {to} e f p kept =
-    rw e (given (subst (λ (n : ℕ). Put b 0 (lineOf (refused n (x .place)) map) to after) f p) kept)
+pub ended : {s : Said} {map b begun after : Bytes} {to end : ℕ} → longest ≤ length b
+    → Begun s map b to begun → Put begun to (10 ∷ []) end after → LineGiven s map b end after
+ended {s} {map} {b} {after = after} {end = end} room x y =
+    let line : Put b 0 (lineOf s map) end after = rw (line-ended s map) at (put-then (omega (arith, x .room)) (x .put) y) in
+    record { count = line .end ∙ omega arith; written = put-written (omega (arith, x .room, y .end)) line }
 
 -- ---- the loop over the positions, of which `left` are left
 

@@ -24,10 +24,6 @@ put-written {b} {s} {to = to} fits p =
     let e : to ≡ length s = omega (arith, p .end) in
     record { room = omega arith; bytes = p .bytes ∙ ap (λ (n : ℕ). s ++ drop n b) e }
 
--- what is written in front of bytes that are as many as before fits
-pub put-fits : {b s after : Bytes} {to : ℕ} → Put b 0 s to after → length after ≡ length b → to ≤ length b
-put-fits {b} {s} {to = to} p kept = omega (arith, p .end, ap length (p .bytes) ∙ length-append s (drop to b), length-drop to b)
-
 module _ {b s after : Bytes} {at to : ℕ} (fits : to ≤ length b) (p : Put b at s to after) where
   -- the bytes up to the end of what is written
   front : length (take at b ++ s) ≡ to

@@ -11,8 +11,8 @@ ghost use lib.Dec.{eqb};
 ghost use lib.ListN.{length};
 ghost use Rattle.reply.specs.Reply.{said, count, refused};
 ghost use Rattle.answer.specs.Bitmap.{bit};
-ghost use Rattle.lines.specs.Line.{spaced, positions, lineOf, LineGiven, longest};
-ghost use Rattle.lines.specs.Put.{Put};
+ghost use Rattle.lines.specs.Line.{spaced, positions, LineGiven, longest};
+ghost use Rattle.lines.specs.Put.{Put, Begun};
 
 // No line is longer.
 pub const LONGEST: usize = 20503;
@@ -53,32 +53,37 @@ fn put_positions(map: &[u8; 512], out: &mut [u8], at: usize) -> usize
     to
 }
 
-// The line of a count, with the positions in its bitmap.
+// The letter of a line and its first number.
+fn put_head(out: &mut [u8], letter: u8, n: usize) -> usize
+    requires { ⌜ longest ≤ length (now out) ⌝ }
+    ensures { λ r. ⌜ Put (now (out .entry)) 0 (letter ∷ spaced (n ∷ [])) r (now (out .exit)) × (r ≤ 22) ⌝ }
+{
+    let to = put_byte(out, 0, letter);
+    put_spaced(out, to, n)
+}
+
+// A count, with the positions in its bitmap.
 fn put_answer(n: usize, map: &[u8; 512], out: &mut [u8]) -> usize
     requires { ⌜ longest ≤ length (now out) ⌝ }
-    ensures { λ r. ⌜ Put (now (out .entry)) 0 (lineOf (count n) (now (map .entry))) r (now (out .exit)) ⌝ }
+    ensures { λ r. ⌜ Begun (count n) (now (map .entry)) (now (out .entry)) r (now (out .exit)) ⌝ }
 {
-    let letter = put_byte(out, 0, b'A');
-    let counted = put_spaced(out, letter, n);
-    let listed = put_positions(map, out, counted);
-    put_byte(out, listed, b'\n')
+    let counted = put_head(out, b'A', n);
+    put_positions(map, out, counted)
 }
 
-// The line of a refusal.
+// A refusal.
 fn put_refusal(number: usize, place: usize, out: &mut [u8]) -> usize
     requires { ⌜ longest ≤ length (now out) ⌝ }
-    ensures { λ r. ⌜ Put (now (out .entry)) 0 (lineOf (refused number place) []) r (now (out .exit)) ⌝ }
+    ensures { λ r. ⌜ Begun (refused number place) [] (now (out .entry)) r (now (out .exit)) ⌝ }
 {
-    let letter = put_byte(out, 0, b'R');
-    let numbered = put_spaced(out, letter, number);
-    let placed = put_spaced(out, numbered, place);
-    put_byte(out, placed, b'\n')
+    let numbered = put_head(out, b'R', number);
+    put_spaced(out, numbered, place)
 }
 
-// Writes the line for a reply and the bitmap that goes with it in front of `out`. Gives its length.
-pub fn write_line(reply: Reply, map: &[u8; 512], out: &mut [u8]) -> usize
+// A reply, with the bitmap that goes with it.
+fn put_reply(reply: Reply, map: &[u8; 512], out: &mut [u8]) -> usize
     requires { ⌜ longest ≤ length (now out) ⌝ }
-    ensures { λ r. ⌜ LineGiven (said reply) (now (map .entry)) (now (out .entry)) r (now (out .exit)) ⌝ }
+    ensures { λ r. ⌜ Begun (said reply) (now (map .entry)) (now (out .entry)) r (now (out .exit)) ⌝ }
 {
     match reply {
         Reply::Count(n) => put_answer(n, map, out),
@@ -88,4 +93,13 @@ pub fn write_line(reply: Reply, map: &[u8; 512], out: &mut [u8]) -> usize
             put_refusal(number_of(reason) as usize, place, out)
         }
     }
+}
+
+// Writes the line for a reply and the bitmap that goes with it in front of `out`. Gives its length.
+pub fn write_line(reply: Reply, map: &[u8; 512], out: &mut [u8]) -> usize
+    requires { ⌜ longest ≤ length (now out) ⌝ }
+    ensures { λ r. ⌜ LineGiven (said reply) (now (map .entry)) (now (out .entry)) r (now (out .exit)) ⌝ }
+{
+    let to = put_reply(reply, map, out);
+    put_byte(out, to, b'\n')
 }

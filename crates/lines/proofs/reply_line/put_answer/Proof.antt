@@ -1,85 +1,36 @@
--- `put_answer` meets its contract: the letter, the count, the positions and the line feed, each behind the one before. Assumes nothing.
-use Prim.Native.Nat.{_≤_, _+_}
+-- `put_answer`: behind the count at most five bytes for each position. Assumes nothing.
 use native.Mathlib.Omega.{arith}
-use lib.ListN.{length}
 use borrow.Author.Needs.{needs}
 use mathlib.Core.List.{[], _∷_}
-use Rattle.lines.specs.Line.{spaced, positions, lineOf}
-use Rattle.lines.proofs.Listing.{spaced-length, spaced-number, spaced-positions, framed}
+use Rattle.lines.specs.Line.{positions}
+use Rattle.lines.specs.Put.{unended}
+use Rattle.lines.proofs.Listing.{spaced-positions, put-numbers}
 use Rattle.lines.proofs.reply_line.put_answer.Statement.{statement}
 use Rattle.lines.proofs.reply_line.put_answer.Tie as tie
 
-put-byte-requires : tie.Need-put-byte-requires
-put-byte-requires c κs = search needs
-
-put-spaced-requires : tie.Need-put-spaced-requires
-put-spaced-requires c κs =
-    let letter = c .before .before .before in
-    let start = letter .before .before .before in
-    let n = start .args .n in
-    omega (
-      arith,
-      letter .put-byte .ensures .end,
-      letter .put-byte .kept .0,
-      start .pre,
-      spaced-length n,
-      spaced-number n (start .fits .n .fits),
-    )
+put-head-requires : tie.Need-put-head-requires
+put-head-requires c κs = search needs
 
 put-positions-requires : tie.Need-put-positions-requires
 put-positions-requires c κs =
-    let counted = c .before .before .before in
-    let letter = counted .before .before .before .before in
-    let start = letter .before .before .before in
-    omega (
-      arith,
-      letter .put-byte .ensures .end,
-      letter .put-byte .kept .0,
-      counted .put-spaced .ensures .end,
-      counted .put-spaced .kept .0,
-      start .pre,
-      spaced-number (start .args .n) (start .fits .n .fits),
-    )
-
-put-byte-requires-2 : tie.Need-put-byte-requires-2
-put-byte-requires-2 c κs =
-    let listed = c .before .before .before in
-    let counted = listed .before .before .before .before in
-    let letter = counted .before .before .before .before in
-    let start = letter .before .before .before in
-    omega (
-      arith,
-      letter .put-byte .ensures .end,
-      letter .put-byte .kept .0,
-      counted .put-spaced .ensures .end,
-      counted .put-spaced .kept .0,
-      listed .put-positions .ensures .end,
-      listed .put-positions .kept .1 .0,
-      start .pre,
-      spaced-number (start .args .n) (start .fits .n .fits),
-      spaced-positions (start .args .map .now) 4096 (omega arith),
-    )
+    let head = c .before .before .before in
+    omega (arith, head .put-head .ensures .1, head .put-head .kept .0, head .before .before .before .pre)
 
 same-length : tie.Need-same-length
 same-length c = search needs
 
 returns : tie.Need-returns
-unfolding lineOf
+unfolding unended
 returns c =
-    let ended = c .before .before in
-    let listed = ended .before .before .before .before in
-    let counted = listed .before .before .before .before in
-    let letter = counted .before .before .before .before in
-    let start = letter .before .before .before in
-    let n = start .args .n in
-    let found = positions (start .args .map .now) 4096 in
-    framed (n ∷ []) found
-    (omega (arith, start .pre, spaced-number n (start .fits .n .fits), spaced-positions (start .args .map .now) 4096 (omega arith)))
-    (letter .put-byte .ensures)
-    (counted .put-spaced .ensures)
-    (listed .put-positions .ensures)
-    (ended .put-byte2 .ensures)
+    let listed = c .before .before in
+    let head = listed .before .before .before .before in
+    let start = head .before .before .before in
+    let map = start .args .map .now in
+    let count = head .put-head .ensures in
+    record {
+      put = put-numbers (start .args .n ∷ []) (positions map 4096) (omega (arith, start .pre)) (count .0) (listed .put-positions .ensures);
+      room = omega (arith, spaced-positions map 4096 (omega arith), listed .put-positions .ensures .end);
+    }
 
 pub put-answer-spec : {M : Type 1} → statement M
-put-answer-spec =
-    tie.close (tie.spec put-byte-requires put-spaced-requires put-positions-requires put-byte-requires-2 same-length returns)
+put-answer-spec = tie.close (tie.spec put-head-requires put-positions-requires same-length returns)

@@ -1,86 +1,38 @@
--- `put_refusal` meets its contract: the letter, the number, the place and the line feed, each behind the one before. Assumes nothing.
+-- `put_refusal`: behind the number the place. Assumes nothing.
 use native.Mathlib.Omega.{arith}
-use mathlib.Core.List.{[], _∷_}
 use borrow.Author.Needs.{needs}
-use Rattle.lines.specs.Line.{lineOf}
-use Rattle.lines.proofs.Listing.{spaced-length, spaced-number, framed}
+use mathlib.Core.List.{[], _∷_}
+use Rattle.lines.specs.Put.{unended}
+use Rattle.lines.proofs.Listing.{spaced-length, spaced-number, put-numbers}
 use Rattle.lines.proofs.reply_line.put_refusal.Statement.{statement}
 use Rattle.lines.proofs.reply_line.put_refusal.Tie as tie
 
-put-byte-requires : tie.Need-put-byte-requires
-put-byte-requires c κs = search needs
+put-head-requires : tie.Need-put-head-requires
+put-head-requires c κs = search needs
 
 put-spaced-requires : tie.Need-put-spaced-requires
 put-spaced-requires c κs =
-    let letter = c .before .before .before in
-    let start = letter .before .before .before in
-    let n = start .args .number in
-    omega (
-      arith,
-      letter .put-byte .ensures .end,
-      letter .put-byte .kept .0,
-      start .pre,
-      spaced-length n,
-      spaced-number n (start .fits .number .fits),
-    )
-
-put-spaced-requires-2 : tie.Need-put-spaced-requires-2
-put-spaced-requires-2 c κs =
-    let numbered = c .before .before .before in
-    let letter = numbered .before .before .before .before in
-    let start = letter .before .before .before in
+    let head = c .before .before .before in
+    let start = head .before .before .before in
     let p = start .args .place in
-    omega (
-      arith,
-      letter .put-byte .ensures .end,
-      letter .put-byte .kept .0,
-      numbered .put-spaced .ensures .end,
-      numbered .put-spaced .kept .0,
-      start .pre,
-      spaced-number (start .args .number) (start .fits .number .fits),
-      spaced-length p,
-      spaced-number p (start .fits .place .fits),
-    )
-
-put-byte-requires-2 : tie.Need-put-byte-requires-2
-put-byte-requires-2 c κs =
-    let placed = c .before .before .before in
-    let numbered = placed .before .before .before .before in
-    let letter = numbered .before .before .before .before in
-    let start = letter .before .before .before in
-    omega (
-      arith,
-      letter .put-byte .ensures .end,
-      letter .put-byte .kept .0,
-      numbered .put-spaced .ensures .end,
-      numbered .put-spaced .kept .0,
-      placed .put-spaced2 .ensures .end,
-      placed .put-spaced2 .kept .0,
-      start .pre,
-      spaced-number (start .args .number) (start .fits .number .fits),
-      spaced-number (start .args .place) (start .fits .place .fits),
-    )
+    let few = spaced-number p (start .fits .place .fits) in
+    omega (arith, head .put-head .ensures .1, head .put-head .kept .0, start .pre, spaced-length p)
 
 same-length : tie.Need-same-length
 same-length c = search needs
 
 returns : tie.Need-returns
-unfolding lineOf
+unfolding unended
 returns c =
-    let ended = c .before .before in
-    let placed = ended .before .before .before .before in
-    let numbered = placed .before .before .before .before in
-    let letter = numbered .before .before .before .before in
-    let start = letter .before .before .before in
-    let n = start .args .number in
+    let placed = c .before .before in
+    let head = placed .before .before .before .before in
+    let start = head .before .before .before in
     let p = start .args .place in
-    framed (n ∷ []) (p ∷ [])
-    (omega (arith, start .pre, spaced-number n (start .fits .number .fits), spaced-number p (start .fits .place .fits)))
-    (letter .put-byte .ensures)
-    (numbered .put-spaced .ensures)
-    (placed .put-spaced2 .ensures)
-    (ended .put-byte2 .ensures)
+    let number = head .put-head .ensures in
+    record {
+      put = put-numbers (start .args .number ∷ []) (p ∷ []) (omega (arith, start .pre)) (number .0) (placed .put-spaced .ensures);
+      room = omega (arith, spaced-number p (start .fits .place .fits), placed .put-spaced .ensures .end);
+    }
 
 pub put-refusal-spec : {M : Type 1} → statement M
-put-refusal-spec =
-    tie.close (tie.spec put-byte-requires put-spaced-requires put-spaced-requires-2 put-byte-requires-2 same-length returns)
+put-refusal-spec = tie.close (tie.spec put-head-requires put-spaced-requires same-length returns)

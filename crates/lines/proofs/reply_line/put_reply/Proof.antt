@@ -1,8 +1,8 @@
--- `write_line` meets its contract. Assumes nothing.
+-- `put_reply`: a count is written with its positions, a refusal with its number from the list. Assumes nothing.
 use borrow.Author.Needs.{needs}
-use Rattle.lines.proofs.Listing.{counted-line, refused-line}
-use Rattle.lines.proofs.reply_line.write_line.Statement.{statement}
-use Rattle.lines.proofs.reply_line.write_line.Tie as tie
+use Rattle.lines.proofs.Listing.{refused-begun}
+use Rattle.lines.proofs.reply_line.put_reply.Statement.{statement}
+use Rattle.lines.proofs.reply_line.put_reply.Tie as tie
 
 enum-known-reply : tie.Need-enum-known-reply
 enum-known-reply c = search needs
@@ -26,7 +26,7 @@ returns : tie.Need-returns
 returns c =
     let put = c .before .before in
     let taken = put .before .before .before in
-    counted-line (taken .reply .given .1) (put .put-answer .ensures) (put .put-answer .kept .1 .1 .0)
+    rw (taken .reply .given .1) (put .put-answer .ensures)
 
 same-length-2 : tie.Need-same-length-2
 same-length-2 c = search needs
@@ -36,10 +36,10 @@ returns-2 c =
     let put = c .before .before in
     let numbered = put .before .before in
     let taken = numbered .before .before in
-    refused-line (taken .reply2 .given .1) (numbered .number-of .ensures) (put .put-refusal .ensures) (put .put-refusal .kept .1 .1 .0)
+    refused-begun (taken .reply2 .given .1) (numbered .number-of .ensures) (put .put-refusal .ensures)
 
-pub write-line-spec : {M : Type 1} → statement M
-write-line-spec =
+pub put-reply-spec : {M : Type 1} → statement M
+put-reply-spec =
     tie.close
     (tie.spec
     enum-known-reply
