@@ -1,16 +1,12 @@
 // Filters that are told at once, so that all nodes can be asked for what a step costs.
 use tables::entry::entry_at;
 use tables::entry::kind_at;
+use tables::kinds::LEADS;
+use tables::kinds::NOT;
+use tables::kinds::STAY;
 ghost use mathlib.Core.Path.{_≡_};
 ghost use lib.Dec.{T};
 ghost use Rattle.query.specs.Table.{entries, entryAt};
-
-// "Stay if the filter holds", "left leads somewhere" and "not".
-const STAY: usize = 6;
-
-const LEADS: usize = 17;
-
-const NOT: usize = 20;
 
 // Whether a filter is told at once: it is the known one, asks for a label, or is "true" or "false".
 fn is_plain(table: &[u8], known: usize, f: usize) -> bool {
@@ -18,10 +14,10 @@ fn is_plain(table: &[u8], known: usize, f: usize) -> bool {
         return true;
     }
     let kind = kind_at(table, f);
-    if kind == LEADS {
+    if kind == LEADS as usize {
         return false;
     }
-    kind < NOT
+    kind < NOT as usize
 }
 
 // Whether the filter that entry e stays by is told at once, or says that such a one does not hold.
@@ -31,7 +27,7 @@ fn at_hand(table: &[u8], known: usize, e: usize) -> bool {
         return true;
     }
     let entry = entry_at(table, asked);
-    if entry.kind != NOT {
+    if entry.kind != NOT as usize {
         return false;
     }
     is_plain(table, known, entry.left)
@@ -41,7 +37,7 @@ fn at_hand(table: &[u8], known: usize, e: usize) -> bool {
 pub(crate) fn stays_at_hand(table: &[u8], known: usize, e: usize) -> bool
     ensures { λ r. ⌜ (T r → entryAt (entries (now (table .entry))) e .kind ≡ 6) ⌝ }
 {
-    if kind_at(table, e) != STAY {
+    if kind_at(table, e) != STAY as usize {
         return false;
     }
     at_hand(table, known, e)

@@ -1,6 +1,9 @@
 // The three courses on which a path is walked.
 use steps::Axis;
 use steps::turned;
+use tables::kinds::CHILD;
+use tables::kinds::NEXT;
+use tables::kinds::PARENT;
 ghost use mathlib.Core.Path.{_≡_};
 ghost use mathlib.Core.Logic.{_↔_};
 ghost use Prim.Native.Nat.{ℕ, _≤_};
@@ -43,15 +46,16 @@ pub(crate) fn first_of(course: Course, left: usize, right: usize) -> usize
     if is_back(course) { right } else { left }
 }
 
-// The axis of a kind: 2 child, 3 parent, 4 next sibling, 5 previous sibling.
+// The axis of a kind that is a step along one.
 pub(crate) fn axis_of(kind: usize) -> Axis
     requires { ⌜ (2 ≤ kind) × (kind ≤ 5) ⌝ }
     ensures { λ r. ⌜ OfKind kind r ⌝ }
 {
-    match kind {
-        2 => Axis::Child,
-        3 => Axis::Parent,
-        4 => Axis::Next,
+    let byte = kind as u8;
+    match byte {
+        CHILD => Axis::Child,
+        PARENT => Axis::Parent,
+        NEXT => Axis::Next,
         _ => Axis::Previous,
     }
 }

@@ -2,6 +2,12 @@
 // writes the entries of what it reads behind the `count` entries of the table.
 use reading::Bracket;
 use reply::OPEN_BRACKETS;
+use tables::kinds::ALWAYS;
+use tables::kinds::LEADS;
+use tables::kinds::NEVER;
+use tables::kinds::NOT;
+use tables::kinds::STAR;
+use tables::kinds::STAY;
 use tokens::answer::Parsed;
 use tokens::answer::closed;
 use tokens::answer::passed;
@@ -9,12 +15,6 @@ use tokens::entry::behind;
 use tokens::entry::joined;
 use tokens::entry::leaf;
 use tokens::entry::put;
-use tokens::kind::ALWAYS;
-use tokens::kind::LEADS;
-use tokens::kind::NEVER;
-use tokens::kind::NOT;
-use tokens::kind::STAR;
-use tokens::kind::STAY;
 use tokens::kind::Sort;
 use tokens::kind::axis;
 use tokens::kind::closing;

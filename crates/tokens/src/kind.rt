@@ -1,41 +1,18 @@
-// The numbers of the kinds in the list of kinds, and the bytes that stand for them in a text.
+// The kinds that are written for a text, and the bytes that stand for them there.
 use reading::Bracket;
 use reading::Chain;
+use tables::kinds::AND;
+use tables::kinds::CHILD;
+use tables::kinds::EITHER;
+use tables::kinds::NEXT;
+use tables::kinds::OR;
+use tables::kinds::PARENT;
+use tables::kinds::PREVIOUS;
+use tables::kinds::SELF;
+use tables::kinds::THEN;
 ghost use mathlib.Core.Path.{_≡_};
 ghost use Rattle.reading.proofs.Parts.{joining, closingByte};
 ghost use Rattle.tokens.specs.Reading.{outerChain, innerChain, joinedKind, AxisOf};
-
-pub const SELF: u8 = 1;
-
-pub const CHILD: u8 = 2;
-
-pub const PARENT: u8 = 3;
-
-pub const NEXT: u8 = 4;
-
-pub const PREVIOUS: u8 = 5;
-
-pub const STAY: u8 = 6;
-
-pub const THEN: u8 = 7;
-
-pub const EITHER: u8 = 8;
-
-pub const STAR: u8 = 9;
-
-pub const LABELLED: u8 = 16;
-
-pub const LEADS: u8 = 17;
-
-pub const ALWAYS: u8 = 18;
-
-pub const NEVER: u8 = 19;
-
-pub const NOT: u8 = 20;
-
-pub const AND: u8 = 21;
-
-pub const OR: u8 = 22;
 
 // A path is a chain of sequences, which are chains of items; a filter is a chain of conjunctions, which are chains of terms.
 pub enum Sort {

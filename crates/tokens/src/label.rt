@@ -1,7 +1,7 @@
 // Bytes of a text, and labels.
 use crate::answer::Parsed;
 use crate::entry::leaf;
-use crate::kind::LABELLED;
+use tables::kinds::LABELLED;
 ghost use mathlib.Core.Path.{_≡_};
 ghost use Prim.Native.Nat.{_≤_};
 ghost use lib.ListN.{length, getD};
