@@ -3,22 +3,17 @@ use Prim.Native.Nat.{ℕ, _+_, _≤_}
 use mathlib.Core.Path.{_≡_}
 use lib.ListN.{length}
 use Rattle.reply.specs.Bytes.{Bytes}
-use Rattle.io.specs.Counts.{Counts}
-use Rattle.draw.specs.Inner.{MoreRead, Held, AllSent, KeptFew}
-use Rattle.draw.specs.declared.file.Loaded.{Loaded}
-use Rattle.draw.specs.declared.file.Loaded.the-variants.{Size}
+use Rattle.draw.specs.Inner.{MoreRead, AllSent, KeptFew}
+use Rattle.draw.specs.declared.file.More.{More}
+use Rattle.draw.specs.declared.file.More.the-variants.{Size}
 use Rattle.draw.specs.declared.stream.Sent.{Sent}
 use Rattle.draw.specs.declared.stream.Sent.the-variants.{UpTo}
 use Rattle.draw.specs.declared.stream.Turn.{Turn}
 use Rattle.draw.specs.declared.stream.Turn.the-variants.{Kept}
 
 -- what was read fits behind what was there
-pub read-fits : {x : Loaded} {n : ℕ} (done : ℕ) (buffer : Bytes) → x ≡ Size n → MoreRead x done buffer → done + n ≤ length buffer
+pub read-fits : {x : More} {n : ℕ} (done : ℕ) (buffer : Bytes) → x ≡ Size n → MoreRead x done buffer → done + n ≤ length buffer
 read-fits done buffer e h = rw e at h
-
--- a file that was read stands at the front of its buffer
-pub held : {x : Loaded} {n : ℕ} (buffer : Bytes) → x ≡ Size n → Held x buffer → Counts n buffer
-held buffer e h = rw e at h
 
 -- what was sent is of the input
 pub sent-within : {x : Sent} {at : ℕ} (input : Bytes) → x ≡ UpTo at → AllSent x input → at ≤ length input

@@ -7,9 +7,8 @@ use mathlib.Core.List.{_++_, List·Memᴰ}
 use lib.ListN.{length, take, drop}
 use Rattle.reply.specs.Bytes.{Bytes, Written}
 use Rattle.lines.specs.Line.{longest}
-use Rattle.io.specs.Counts.{Counts}
-use Rattle.draw.specs.declared.file.Loaded.{Loaded}
-use Rattle.draw.specs.declared.file.Loaded.the-variants.{Size, Unreadable}
+use Rattle.draw.specs.declared.file.More.{More}
+use Rattle.draw.specs.declared.file.More.the-variants.{Size, Unreadable}
 use Rattle.draw.specs.declared.stream.Sent.{Sent}
 use Rattle.draw.specs.declared.stream.Sent.the-variants.{UpTo, Failed}
 use Rattle.draw.specs.declared.stream.Turn.{Turn}
@@ -32,14 +31,9 @@ pub record LinesAnswered (Line : Bytes → Bytes → Type 0) (input : Bytes) (re
   pub ends : (¬ List·Memᴰ (code "\n") (drop read input)) ⊎ (length output < written + longest)
 
 -- Some bytes more stand behind those that are there.
-abbrev pub MoreRead : Loaded → ℕ → Bytes → Type 0
+abbrev pub MoreRead : More → ℕ → Bytes → Type 0
 MoreRead (Size n) done buffer = done + n ≤ length buffer
 MoreRead Unreadable done buffer = Unit {0}
-
--- A file's bytes stand at the front of its buffer.
-abbrev pub Held : Loaded → Bytes → Type 0
-Held (Size n) buffer = Counts n buffer
-Held Unreadable buffer = Unit {0}
 
 -- The input is answered up to a place behind which no line ends.
 abbrev pub AllSent : Sent → Bytes → Type 0

@@ -4,7 +4,6 @@ mod file;
 mod line;
 mod stream;
 
-use file::Loaded;
 use file::load;
 use stream::draw;
 use stream::unreadable;
@@ -14,17 +13,15 @@ fn main() {
     let mut roll = [0u8; 16388];
     let mut view = [0u8; 198];
     let mut filters = [0u8; 1542];
-    let nodes = load(b"roll.rec", &mut roll);
-    let records = load(b"view.rec", &mut view);
-    let entries = load(b"filters.rec", &mut filters);
-    let Loaded::Size(nodes) = nodes else {
-        return unreadable();
-    };
-    let Loaded::Size(records) = records else {
-        return unreadable();
-    };
-    let Loaded::Size(entries) = entries else {
-        return unreadable();
-    };
-    draw(&roll[..nodes], &view[..records], &filters[..entries]);
+    let roll_file = load(b"roll.rec", &mut roll);
+    let view_file = load(b"view.rec", &mut view);
+    let filter_file = load(b"filters.rec", &mut filters);
+    if roll_file.readable & view_file.readable & filter_file.readable {
+        let nodes = roll_file.size;
+        let records = view_file.size;
+        let entries = filter_file.size;
+        draw(&roll[..nodes], &view[..records], &filters[..entries]);
+    } else {
+        unreadable();
+    }
 }

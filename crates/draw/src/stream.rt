@@ -1,5 +1,5 @@
 // Standard input to standard output.
-use crate::file::Loaded;
+use crate::file::More;
 use crate::file::read_more;
 use crate::line::answer_lines;
 use libc::STDIN_FILENO;
@@ -111,7 +111,7 @@ fn read_on(
     ensures { λ r. ⌜ KeptFew r ⌝ }
 {
     let more = read_more(STDIN_FILENO, buffer, kept);
-    let Loaded::Size(n) = more else {
+    let More::Size(n) = more else {
         return Turn::Over;
     };
     if n == 0 {
