@@ -1,43 +1,30 @@
--- Four stores in a row write a node, and what is written in front of a room leaves the rest of it. Assumes nothing.
+-- A node that is written, and what is written in front of a room leaves the rest of it. Assumes nothing.
 use Prim.Native.Nat.{ℕ, _+_, _-_, _*_, _/_, _%_, _≤_}
 use native.Mathlib.Omega.{arith}
 use native.Mathlib.Numerals.{towards-suc}
-use mathlib.Core.Path.{_≡_, refl, sym, ap, _∙_}
-use mathlib.Core.List.{[], _∷_, _++_, append-assoc}
-use lib.ListN.{length, take, drop, set, length-append, take-append-drop}
-use lib.Seq.{sets, sets-eq, take-at, drop-at, drop-drop, length-take-le}
+use mathlib.Core.Path.{_≡_, sym, ap}
+use mathlib.Core.List.{[], _∷_}
+use lib.ListN.{length, take, drop, set, take-append-drop}
+use lib.Seq.{sets, drop-drop}
 use Rattle.reply.specs.Bytes.{Bytes, twoBytes, Written}
+use Rattle.reply.proofs.Stores.{stored-front, stored-behind}
 use Rattle.tree.specs.Tree.{Tree}
 use Rattle.roll.specs.Roll.{nodeBytes}
 use Rattle.roll.proofs.Back.{node-bytes-length}
 use Rattle.cutting.specs.Scan.{NodePut}
 
--- what is stored in a row stands there, and nothing changes behind it
-module _ (room : Bytes) (i : ℕ) (vs : Bytes) (h : i + length vs ≤ length room) where
-  front-length : length (take i room ++ vs) ≡ i + length vs
-  front-length = let inside : i ≤ length room = omega arith in simp (length-append, length-take-le) refl
-
-  whole : sets room i vs ≡ (take i room ++ vs) ++ drop (i + length vs) room
-  whole = sets-eq vs room i h ∙ simp append-assoc
-
-  row-front : take (i + length vs) (sets room i vs) ≡ take i room ++ vs
-  row-front = ap (take (i + length vs)) whole ∙ take-at (take i room ++ vs) _ (i + length vs) front-length
-
-  row-behind : drop (i + length vs) (sets room i vs) ≡ drop (i + length vs) room
-  row-behind = ap (drop (i + length vs)) whole ∙ drop-at (take i room ++ vs) _ (i + length vs) front-length
-
--- the bytes of a node, stored one by one behind k nodes
-pub stored : (room : Bytes) (k label parent : ℕ) → 4 * (k + 1) ≤ length room
-    → NodePut k (record { label = label; parent = parent }) room
-    (set (set (set (set room (4 * k) label) (4 * k + 1) 0) (4 * k + 2) (parent % 256)) (4 * k + 3) (parent / 256 % 256))
+-- label, zero byte and the number behind them are the bytes of a node
+pub stored : (room : Bytes) (k label parent : ℕ) {after : Bytes} → 4 * (k + 1) ≤ length room
+    → after ≡ sets (set (set room (4 * k) label) (4 * k + 1) 0) (4 * k + 2) (twoBytes parent)
+    → NodePut k (record { label = label; parent = parent }) room after
 unfolding nodeBytes twoBytes
-stored room k label parent h =
+stored room k label parent h written =
     let end : 4 * (k + 1) ≡ 4 * k + 4 = omega arith in
     let fits : 4 * k + 4 ≤ length room = omega arith in
     let bytes : Bytes = label ∷ 0 ∷ parent % 256 ∷ parent / 256 % 256 ∷ [] in
     record {
-      front = rw end (simp towards-suc (simp towards-suc at (row-front room (4 * k) bytes fits)));
-      behind = rw end (simp towards-suc (simp towards-suc at (row-behind room (4 * k) bytes fits)));
+      front = rw (end, written) (simp towards-suc (simp towards-suc at (stored-front room (4 * k) bytes fits)));
+      behind = rw (end, written) (simp towards-suc (simp towards-suc at (stored-behind room (4 * k) bytes fits)));
     }
 
 -- a table in front of a room is written there

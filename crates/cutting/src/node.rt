@@ -1,5 +1,6 @@
 // The records of the view.
 use reply::NO_PARENT;
+use reply::put_two_bytes;
 use roll::parent_at;
 ghost use Prim.Native.Nat.{_+_, _*_, _≤_, _<_};
 ghost use lib.ListN.{length};
@@ -26,6 +27,5 @@ pub(crate) fn put(room: &mut [u8], k: usize, label: u8, parent: usize)
     let at = 4 * k;
     room[at] = label;
     room[at + 1] = 0;
-    room[at + 2] = (parent % 256) as u8;
-    room[at + 3] = (parent / 256 % 256) as u8;
+    put_two_bytes(room, at + 2, parent);
 }

@@ -17,8 +17,10 @@ pub use limits::REWRITTEN_ROOM;
 pub use limits::TABLE_ROOM;
 pub use limits::TEXT_BYTES;
 ghost use mathlib.Core.Path.{_≡_};
-ghost use Prim.Native.Nat.{_<_};
-ghost use Rattle.reply.specs.Bytes.{two};
+ghost use Prim.Native.Nat.{_+_, _<_, _≤_};
+ghost use lib.ListN.{length};
+ghost use lib.Seq.{sets};
+ghost use Rattle.reply.specs.Bytes.{two, twoBytes};
 ghost use Rattle.reply.specs.Reply.{number, refused, said};
 
 // Why a call refuses: one case for each row of the list of refusals.
@@ -96,4 +98,13 @@ pub fn two_bytes(low: u8, high: u8) -> usize
     ensures { λ r. ⌜ r ≡ two low high ⌝ }
 {
     wide(low) + 256 * wide(high)
+}
+
+// Writes a two-byte number at a place.
+pub fn put_two_bytes(out: &mut [u8], at: usize, number: usize)
+    requires { ⌜ at + 2 ≤ length (now out) ⌝ }
+    ensures { λ _. ⌜ now (out .exit) ≡ sets (now (out .entry)) at (twoBytes number) ⌝ }
+{
+    out[at] = (number % 256) as u8;
+    out[at + 1] = (number / 256 % 256) as u8;
 }

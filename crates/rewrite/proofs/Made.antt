@@ -24,7 +24,8 @@ use Rattle.written.specs.Written.{preludeSize, written}
 use Rattle.written.proofs.Stands.{Sound}
 use Rattle.written.proofs.Table.{table-size, table-sound, table-stands, visible-stands}
 use Rattle.written.proofs.Back.{table-back}
-use Rattle.writer.specs.Laid.{laid, Room, LabelBytes, Numbers, AllInOrder}
+use Rattle.tables.specs.Laid.{laid}
+use Rattle.writer.specs.Laid.{Room, LabelBytes, Numbers, AllInOrder}
 use Rattle.writer.proofs.Recording.{written-size}
 use Rattle.rewriting.proofs.VisibleFilter.{visible-right}
 use Rattle.rewrite.specs.Promise.{Faithful, Rewritten}

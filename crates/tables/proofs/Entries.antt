@@ -1,18 +1,22 @@
--- What the code reads of an entry is what stands there, and the number of a sort says the sort. Assumes nothing.
+-- What the code reads of an entry is what stands there, what it writes are an entry's bytes, and the number of a sort says the sort. Assumes
+-- nothing.
 use Prim.Native.Nat.{ℕ, _+_, _*_, _/_, _≤_, _<_}
 use native.Mathlib.Numerals.{towards-suc}
 use native.Mathlib.Omega.{arith}
 use mathlib.Core.Path.{_≡_, refl, sym, ap, _∙_, subst}
 use mathlib.Core.Logic.{_↔_}
+use mathlib.Core.List.{[], _∷_}
 use mathlib.Core.Option.{Option, none, some}
-use lib.ListN.{length, getD}
-use Rattle.reply.specs.Bytes.{Bytes, two}
+use lib.ListN.{length, getD, set}
+use lib.Seq.{sets}
+use Rattle.reply.specs.Bytes.{Bytes, two, twoBytes}
 use Rattle.query.specs.Kind.{Sort, path, filter, Operand, Row, rowOf}
 use Rattle.query.specs.Table as table
-use Rattle.query.specs.Table.{Entries, entries, entryAt, rowAt, HasSort}
+use Rattle.query.specs.Table.{Entries, entries, entryBytes, entryAt, rowAt, HasSort}
 use Rattle.query.proofs.Tables.{entries-length, entryFrom, entry-bytes, no-entry}
 use Rattle.tables.specs.declared.entry.Entry.{Entry}
 use Rattle.tables.specs.Fields.{Fields}
+use Rattle.tables.specs.Laid.{laid, fields}
 use Rattle.tables.specs.Shape.{sortNumber, OfOperand, sortOf}
 
 module _ (b : Bytes) (i : ℕ) where
@@ -29,6 +33,13 @@ module _ (b : Bytes) (i : ℕ) where
   -- an entry that is not there has no fields
   pub fields-none : length b / 6 ≤ i → Fields (entryAt (entries b) i) (record { kind = 0; label = 0; left = 0; right = 0 })
   fields-none l = rw (no-entry b i (omega (arith, entries-length b))) (record { kind = refl; label = refl; left = refl; right = refl })
+
+-- kind, label and the two numbers behind them are the bytes of an entry
+pub stored : (out : Bytes) (n kind label left right : ℕ) {first second : Bytes}
+    → first ≡ sets (set (set out (6 * n) kind) (6 * n + 1) label) (6 * n + 2) (twoBytes left)
+    → second ≡ sets first (6 * n + 4) (twoBytes right) → second ≡ laid out n (fields kind label left right ∷ [])
+unfolding entryBytes twoBytes
+stored out n kind label left right one other = other ∙ rw one (simp towards-suc)
 
 -- What was read of an entry, said of the entry.
 module _ {e : table.Entry} {read : Entry} (fields : Fields e read) where

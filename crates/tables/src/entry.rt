@@ -1,12 +1,15 @@
 // "Query entry, 6 bytes: kind, label, left (two bytes), right (two bytes)."
 ghost use mathlib.Core.Path.{_≡_};
-ghost use Prim.Native.Nat.{_+_, _<_};
+ghost use mathlib.Core.List.{[], _∷_};
+ghost use Prim.Native.Nat.{_+_, _*_, _<_, _≤_};
 ghost use lib.ListN.{length, getD};
 ghost use Rattle.reply.specs.Bytes.{two};
 ghost use Rattle.query.specs.Table.{entries, entryAt, rowAt};
 ghost use Rattle.tables.specs.Shape.{sortOf};
 ghost use Rattle.tables.specs.Fields.{Fields};
+ghost use Rattle.tables.specs.Laid.{laid, fields};
 use crate::kinds::sort_of;
+use reply::put_two_bytes;
 use reply::two_bytes;
 use reply::wide;
 
@@ -64,4 +67,16 @@ pub fn sort_at(table: &[u8], i: usize) -> u8
     ensures { λ r. ⌜ r ≡ sortOf (rowAt (entries (now (table .entry))) i) ⌝ }
 {
     sort_of(kind_at(table, i))
+}
+
+// Writes entry i.
+pub fn put(table: &mut [u8], i: usize, kind: u8, label: u8, left: usize, right: usize)
+    requires { ⌜ 6 * (i + 1) ≤ length (now table) ⌝ }
+    ensures { λ _. ⌜ now (table .exit) ≡ laid (now (table .entry)) i (fields kind label left right ∷ []) ⌝ }
+{
+    let at = 6 * i;
+    table[at] = kind;
+    table[at + 1] = label;
+    put_two_bytes(table, at + 2, left);
+    put_two_bytes(table, at + 4, right);
 }

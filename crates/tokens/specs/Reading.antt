@@ -7,6 +7,7 @@ use lib.ListN.{length, getD, take, drop}
 use Rattle.reply.specs.Bytes.{Bytes}
 use Rattle.query.specs.Syntax.{Path, Filter}
 use Rattle.query.specs.Table.{Entries, entryBytes}
+use Rattle.tables.specs.Laid.{fields}
 use Rattle.text.specs.Written.{pathEntries, filterEntries}
 use Rattle.reading.specs.declared.Chain.{Chain}
 use Rattle.reading.specs.declared.Chain.the-variants as chain
@@ -32,7 +33,7 @@ asLine {A} reads written spare = record { Thing = A; reads = reads; written = wr
 
 -- an entry alone
 abbrev pub one : ℕ → ℕ → ℕ → ℕ → Entries
-one kind label left right = record { kind = kind; label = label; left = left; right = right } ∷ []
+one kind label left right = fields kind label left right ∷ []
 
 -- Behind the n entries of the table stand these.
 pub record Added (before : Bytes) (n : ℕ) (es : Entries) (after : Bytes) : Type 0 where

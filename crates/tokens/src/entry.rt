@@ -14,13 +14,7 @@ pub fn put(table: &mut [u8], count: usize, kind: u8, label: u8, left: usize, rig
     requires { ⌜ 6 * (count + 1) ≤ length (now table) ⌝ }
     ensures { λ _. ⌜ Added (now (table .entry)) count (one kind label left right) (now (table .exit)) ⌝ }
 {
-    let at = 6 * count;
-    table[at] = kind;
-    table[at + 1] = label;
-    table[at + 2] = (left % 256) as u8;
-    table[at + 3] = (left / 256 % 256) as u8;
-    table[at + 4] = (right % 256) as u8;
-    table[at + 5] = (right / 256 % 256) as u8;
+    tables::entry::put(table, count, kind, label, left, right);
 }
 
 // Writes an entry without operands; the text is read up to `next`.

@@ -1,22 +1,17 @@
 -- Entries that are written one behind another. Assumes nothing.
-use Prim.Native.Nat.{ℕ, suc, _+_, _*_, _/_, _%_, _≤_, _<_}
+use Prim.Native.Nat.{ℕ, _+_, _*_, _≤_, _<_}
 use native.Mathlib.Nat.{le-of-lt}
-use native.Mathlib.Numerals.{add-one, towards-suc}
+use native.Mathlib.Numerals.{add-one}
 use native.Mathlib.Omega.{arith}
 use mathlib.Core.Path.{_≡_, sym, ap, _∙_}
 use mathlib.Core.List.{[], _∷_, _++_, map, map-append}
-use lib.ListN.{length, getD, take, set, length-map}
-use lib.Seq.{sets, length-sets, take-suc, take-all, length-take-le}
-use Rattle.reply.specs.Bytes.{Bytes, twoBytes}
+use lib.ListN.{length, getD, take, length-map}
+use lib.Seq.{length-sets, take-suc, take-all, length-take-le}
+use Rattle.reply.specs.Bytes.{Bytes}
+use Rattle.reply.proofs.Stores.{stored-on}
 use Rattle.query.specs.Table.{Entry, Entries, entryBytes}
 use Rattle.query.proofs.Bytes.{bytes-length, bytes-of-both}
-use Rattle.writer.specs.Laid.{laid, fields}
-
--- bytes stored behind bytes
-stored-on : (out : Bytes) (i : ℕ) (b more : Bytes) → sets (sets out i b) (i + length b) more ≡ sets out i (b ++ more)
-stored-on out i [] more = ap (λ (k : ℕ). sets out k more) (omega arith)
-stored-on out i (x ∷ b) more =
-    ap (λ (k : ℕ). sets (sets (set out i x) (suc i) b) k more) (omega arith) ∙ stored-on (set out i x) (suc i) b more
+use Rattle.tables.specs.Laid.{laid}
 
 module _ (out : Bytes) (n : ℕ) (es : Entries) where
   -- what is laid keeps the length
@@ -33,15 +28,6 @@ module _ (out : Bytes) (n : ℕ) (es : Entries) where
   pub laid-more : {m : ℕ} (fs : Entries) {now next : Bytes} → now ≡ laid out n es → m ≡ n + length es → next ≡ laid now m fs
       → next ≡ laid out n (es ++ fs)
   laid-more {m} fs before e after = after ∙ ap (λ (b : Bytes). laid b m fs) before ∙ laid-on fs e
-
--- the bytes of an entry, stored one by one
-pub stored : (out : Bytes) (n kind label left right : ℕ)
-    → let at : ℕ = 6 * n in
-    let first : Bytes = set (set (set out at kind) (at + 1) label) (at + 2) (left % 256) in
-    set (set (set first (at + 3) (left / 256 % 256)) (at + 4) (right % 256)) (at + 5) (right / 256 % 256)
-    ≡ laid out n (fields kind label left right ∷ [])
-unfolding entryBytes twoBytes
-stored out n kind label left right = simp towards-suc
 
 -- the first k entries of a list are written, and then one more
 pub laid-step : (out : Bytes) (n : ℕ) (es : Entries) (d : Entry) (k : ℕ) {now next : Bytes} → k < length es → now ≡ laid out n (take k es)

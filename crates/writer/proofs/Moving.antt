@@ -2,8 +2,11 @@
 -- nothing.
 use Prim.Native.Nat.{ℕ, zero, suc, _≤_, _<_}
 use native.Mathlib.Omega.{arith}
-use mathlib.Core.Path.{_≡_, refl, sym, ap, _∙_}
+use mathlib.Core.Path.{_≡_, refl, ap, _∙_}
 use mathlib.Core.Bool.{Bool, true, false}
+use mathlib.Core.List.{[], _∷_}
+use denote.Enum.Declared.{tagOf}
+use types.Run.{OneOf}
 use Rattle.query.specs.Kind.{Sort, path, filter}
 use Rattle.query.specs.Table as table
 use Rattle.query.specs.Table.{Entries, entryAt, LabelField, EntryRight}
@@ -11,8 +14,12 @@ use Rattle.query.proofs.Standing.{path-kind, filter-kind}
 use Rattle.tables.specs.declared.entry.Entry.{Entry}
 use Rattle.tables.specs.Fields.{Fields}
 use Rattle.written.proofs.Back.{operand-small}
-use Rattle.written.specs.Written.{raise, chosen, viewEntry}
-use Rattle.writer.specs.Laid.{fields, ByteFields, Short}
+use Rattle.written.specs.Written.{raise, axisRow, chosen, viewEntry}
+use Rattle.tables.specs.Laid.{fields}
+use Rattle.writer.specs.Laid.{ByteFields, Short, StandsFor}
+use Rattle.writer.specs.declared.moved.StandIn.{StandIn}
+use Rattle.writer.specs.declared.moved.StandIn.the-variants.{CopyOf, Itself}
+use Rattle.writer.proofs.moved.StandIn as stand-in
 
 -- the entry that a struct was read from
 abbrev pub given : Entry → table.Entry
@@ -21,8 +28,8 @@ given own = fields (own .kind) (own .label) (own .left) (own .right)
 was-read : {e : table.Entry} {own : Entry} → Fields e own → given own ≡ e
 was-read f = λ i. fields (f .kind i) (f .label i) (f .left i) (f .right i)
 
--- what is written for a kind that is no axis
-others : (axes : ℕ) (own : table.Entry) (kind : ℕ) → ¬ (kind ≡ 2) → ¬ (kind ≡ 3) → ¬ (kind ≡ 4) → ¬ (kind ≡ 5) → chosen axes own kind ≡ own
+-- what is chosen for a kind that is no axis
+pub others : (axes : ℕ) (own : table.Entry) (kind : ℕ) → ¬ (kind ≡ 2) → ¬ (kind ≡ 3) → ¬ (kind ≡ 4) → ¬ (kind ≡ 5) → own ≡ chosen axes own kind
 unfolding chosen
 others axes own zero a b c d = refl
 others axes own (suc zero) a b c d = refl
@@ -32,17 +39,28 @@ others axes own (suc (suc (suc (suc zero)))) a b c d = absurd (c refl)
 others axes own (suc (suc (suc (suc (suc zero))))) a b c d = absurd (d refl)
 others axes own (suc (suc (suc (suc (suc (suc kind)))))) a b c d = refl
 
+-- nothing but a copy has the first of the two cases
+itself : (found : StandIn) → OneOf (1 ∷ []) (tagOf stand-in.the-type found) → found ≡ Itself
+itself (CopyOf k) is = absurd (omega arith)
+itself Itself is = refl
+
 -- What stands for the entry that was read.
 module _ {e : table.Entry} {own : Entry} (read : Fields e own) (axes distance : ℕ) where
-  -- of a step along an axis, what is chosen for its kind
-  pub along : {kind : ℕ} → own .kind ≡ kind → chosen axes (raise distance e) kind ≡ viewEntry axes distance e
+  -- it is chosen by the kind that was read
+  by-kind : chosen axes (raise distance e) (own .kind) ≡ viewEntry axes distance e
   unfolding viewEntry
-  along is = ap (chosen axes (raise distance e)) (sym is ∙ read .kind)
+  by-kind = ap (chosen axes (raise distance e)) (read .kind)
 
-  -- of any other, itself
-  pub other : ¬ (own .kind ≡ 2) → ¬ (own .kind ≡ 3) → ¬ (own .kind ≡ 4) → ¬ (own .kind ≡ 5)
-      → raise distance (given own) ≡ viewEntry axes distance e
-  other a b c d = ap (raise distance) (was-read read) ∙ sym (others axes (raise distance e) (own .kind) a b c d) ∙ along refl
+  module _ (found : StandIn) (stands : StandsFor (own .kind) found) where
+    -- a copy of a row
+    pub copy-stands : {k : ℕ} → found ≡ CopyOf k → (k < 56) × (raise axes (axisRow k) ≡ viewEntry axes distance e)
+    copy-stands is = let copy = rw is at stands in (copy .0, copy .1 axes (raise distance e) ∙ by-kind)
+
+    -- or the entry itself
+    pub itself-stands : OneOf (1 ∷ []) (tagOf stand-in.the-type found) → raise distance (given own) ≡ viewEntry axes distance e
+    itself-stands is =
+        let own = rw (itself found is) at stands in
+        ap (raise distance) (was-read read) ∙ own axes (raise distance e) ∙ by-kind
 
 -- The fields of an entry in order.
 module _ {es : Entries} {i : ℕ} (right : EntryRight es i) where

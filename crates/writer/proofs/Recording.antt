@@ -13,7 +13,7 @@ use Rattle.checks.specs.Fields.{Fields}
 use Rattle.view.specs.Annotation.{AnnotationRecord, recordAt}
 use Rattle.written.specs.Written.{raise, opening, nineEntries, recordEntries, recordsEntries, axisRows, prelude, preludeSize, viewEntry, written}
 use Rattle.written.proofs.Table.{records-many, prelude-size}
-use Rattle.writer.specs.Laid.{laid}
+use Rattle.tables.specs.Laid.{laid}
 use Rattle.writer.proofs.Laying.{laid-more, laid-same}
 
 -- The records from i on are written behind the opening, up to entry `at`.

@@ -1,19 +1,13 @@
--- What the writer leaves in the part of the room that it is lent, and what it must be given. Nothing here has to be believed: call 5's
--- promise is stated without it.
+-- What the writer must be given, and what it chooses for an entry. Nothing here has to be believed: call 5's promise is stated without it.
 use Prim.Native.Nat.{ℕ, _+_, _*_, _≤_, _<_}
+use mathlib.Core.Path.{_≡_}
 use lib.ListN.{length}
-use lib.Seq.{sets}
 use Rattle.reply.specs.Bytes.{Bytes}
-use Rattle.query.specs.Table.{Entry, Entries, entries, entryBytes, EntryRight}
+use Rattle.query.specs.Table.{Entry, entries, EntryRight}
 use Rattle.view.specs.Annotation.{records, recordAt}
-
--- the bytes of entries, stored behind n others
-abbrev pub laid : Bytes → ℕ → Entries → Bytes
-laid out n es = sets out (6 * n) (entryBytes es)
-
--- an entry by its fields
-abbrev pub fields : ℕ → ℕ → ℕ → ℕ → Entry
-fields kind label left right = record { kind = kind; label = label; left = left; right = right }
+use Rattle.written.specs.Written.{raise, axisRow, chosen}
+use Rattle.writer.specs.declared.moved.StandIn.{StandIn}
+use Rattle.writer.specs.declared.moved.StandIn.the-variants.{CopyOf, Itself}
 
 -- There is room for so many entries behind n others.
 pub record Room (out : Bytes) (n many : ℕ) : Type 0 where
@@ -41,3 +35,8 @@ LabelBytes annotation =
 -- every entry of a table is in order
 abbrev pub AllInOrder : Bytes → Type 0
 AllInOrder table = (i : ℕ) → i < length (entries table) → EntryRight (entries table) i
+
+-- What stands for an entry of a kind, whichever entry it is and wherever the rows stand.
+abbrev pub StandsFor : ℕ → StandIn → Type 0
+StandsFor kind (CopyOf k) = (k < 56) × ((axes : ℕ) (own : Entry) → raise axes (axisRow k) ≡ chosen axes own kind)
+StandsFor kind Itself = (axes : ℕ) (own : Entry) → own ≡ chosen axes own kind

@@ -15,7 +15,8 @@ ghost use lib.ListN.{length};
 ghost use Rattle.query.specs.Table.{entries};
 ghost use Rattle.view.specs.Annotation.{records};
 ghost use Rattle.written.specs.Written.{preludeSize, written};
-ghost use Rattle.writer.specs.Laid.{laid, Room, LabelBytes, Numbers, AllInOrder};
+ghost use Rattle.tables.specs.Laid.{laid};
+ghost use Rattle.writer.specs.Laid.{Room, LabelBytes, Numbers, AllInOrder};
 
 // How far before the query's entries the two stand that the rows count from.
 const ROWS_BEHIND: usize = 58;

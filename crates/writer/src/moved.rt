@@ -3,12 +3,17 @@ use crate::entry::put_raised;
 use crate::rows::put_row;
 use tables::entry::count;
 use tables::entry::entry_at;
+use tables::kinds::CHILD;
+use tables::kinds::NEXT;
+use tables::kinds::PARENT;
+use tables::kinds::PREVIOUS;
 ghost use mathlib.Core.Path.{_≡_};
 ghost use mathlib.Core.List.{[], _∷_, map};
 ghost use lib.ListN.{length};
 ghost use Rattle.query.specs.Table.{entries, entryAt, EntryRight};
 ghost use Rattle.written.specs.Written.{viewEntry};
-ghost use Rattle.writer.specs.Laid.{laid, Room, Short, AllInOrder};
+ghost use Rattle.tables.specs.Laid.{laid};
+ghost use Rattle.writer.specs.Laid.{Room, Short, AllInOrder, StandsFor};
 
 // The last row of each axis.
 const DOWN: usize = 18;
@@ -19,8 +24,27 @@ const FORWARDS: usize = 44;
 
 const BACKWARDS: usize = 55;
 
-// Writes what stands for entry i of the query, as entry `at` of the part: of a step along an axis a copy of the axis's last row. The rows
-// count from `axes`, and the query's entries stand `distance` further on.
+// What stands for an entry of the query: a copy of a row, or the entry itself.
+pub enum StandIn {
+    CopyOf(usize),
+    Itself,
+}
+
+// What stands for an entry of a kind: of a step along an axis, a copy of the axis's last row.
+fn stand_in(kind: u8) -> StandIn
+    ensures { λ r. ⌜ StandsFor kind r ⌝ }
+{
+    match kind {
+        CHILD => StandIn::CopyOf(DOWN),
+        PARENT => StandIn::CopyOf(UP),
+        NEXT => StandIn::CopyOf(FORWARDS),
+        PREVIOUS => StandIn::CopyOf(BACKWARDS),
+        _ => StandIn::Itself,
+    }
+}
+
+// Writes what stands for entry i of the query, as entry `at` of the part. The rows count from `axes`, and the query's entries stand
+// `distance` further on.
 fn put_view(out: &mut [u8], at: usize, query: &[u8], i: usize, axes: usize, distance: usize)
     requires { ⌜ Room (now out) at 1 ⌝ }
     requires { ⌜ EntryRight (entries (now query)) i ⌝ }
@@ -28,13 +52,19 @@ fn put_view(out: &mut [u8], at: usize, query: &[u8], i: usize, axes: usize, dist
     ensures { λ _. ⌜ now (out .exit) ≡ laid (now (out .entry)) at (viewEntry axes distance (entryAt (entries (now (query .entry))) i) ∷ []) ⌝ }
 {
     let own = entry_at(query, i);
-    let kind = own.kind;
-    match kind {
-        2 => put_row(out, at, DOWN, axes),
-        3 => put_row(out, at, UP, axes),
-        4 => put_row(out, at, FORWARDS, axes),
-        5 => put_row(out, at, BACKWARDS, axes),
-        _ => put_raised(out, at, kind, own.label, own.left, own.right, distance),
+    let kind = own.kind as u8;
+    let found = stand_in(kind);
+    match found {
+        StandIn::CopyOf(row) => put_row(out, at, row, axes),
+        StandIn::Itself => put_raised(
+            out,
+            at,
+            kind,
+            own.label as u8,
+            own.left,
+            own.right,
+            distance,
+        ),
     }
 }
 

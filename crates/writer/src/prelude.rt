@@ -1,18 +1,16 @@
 // What stands before the query's own entries: it depends on the annotation and on the number of filter entries alone.
-use crate::entry::put;
 use crate::records::write_records;
 use crate::rows::write_rows;
+use tables::entry::put;
+use tables::kinds::NEVER;
+use tables::kinds::PARENT;
 ghost use mathlib.Core.Path.{_≡_};
 ghost use mathlib.Core.List.{[], _∷_};
 ghost use lib.ListN.{length};
 ghost use Rattle.view.specs.Annotation.{records};
 ghost use Rattle.written.specs.Written.{opening, prelude, preludeSize};
-ghost use Rattle.writer.specs.Laid.{laid, Room, LabelBytes, Numbers};
-
-// The kinds of the opening: the parent step, and "false".
-const PARENT: usize = 3;
-
-const NEVER: usize = 19;
+ghost use Rattle.tables.specs.Laid.{laid};
+ghost use Rattle.writer.specs.Laid.{Room, LabelBytes, Numbers};
 
 // Writes the opening: the parent step, and that no record is the node's or shows it.
 fn write_opening(out: &mut [u8])

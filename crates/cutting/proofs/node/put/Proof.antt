@@ -1,7 +1,9 @@
--- `put` meets its contract: its four stores are a node's bytes. Assumes nothing.
+-- `put`: two stores and a number are a node's bytes. Assumes nothing.
 use native.Mathlib.Omega.{arith}
 use borrow.Author.Needs.{needs}
-use lib.ListN.{length-set}
+use mathlib.Core.Path.{ap, _∙_}
+use lib.ListN.{length, length-set}
+use lib.Seq.{length-sets}
 use Rattle.cutting.proofs.Putting.{stored}
 use Rattle.cutting.proofs.node.put.Statement.{statement}
 use Rattle.cutting.proofs.node.put.Tie as tie
@@ -18,29 +20,21 @@ add-room c = search needs
 slice-write-room-2 : tie.Need-slice-write-room-2
 slice-write-room-2 c = simp length-set (omega arith)
 
-cast-room : tie.Need-cast-room
-cast-room c = search needs
+add-put-two-bytes : tie.Need-add-put-two-bytes
+add-put-two-bytes c = search needs
 
-add-room-2 : tie.Need-add-room-2
-add-room-2 c = search needs
-
-slice-write-room-3 : tie.Need-slice-write-room-3
-slice-write-room-3 c = simp length-set (omega arith)
-
-cast-room-2 : tie.Need-cast-room-2
-cast-room-2 c = search needs
-
-add-room-3 : tie.Need-add-room-3
-add-room-3 c = search needs
-
-slice-write-room-4 : tie.Need-slice-write-room-4
-slice-write-room-4 c = simp length-set (omega arith)
+put-two-bytes-requires : tie.Need-put-two-bytes-requires
+put-two-bytes-requires c κs = simp length-set (omega arith)
 
 same-length : tie.Need-same-length
-same-length c = search needs
+same-length c = ap length (c .before .before .put-two-bytes .ensures) ∙ simp (length-sets, length-set)
 
 returns : tie.Need-returns
-returns c = stored (c .args .room .now) (c .args .k) (c .args .label) (c .args .parent) (c .pre)
+returns c =
+    let number = c .before .before in
+    let start = number .before .before .before in
+    let a = start .args in
+    stored (a .room .now) (a .k) (a .label) (a .parent) (start .pre) (number .put-two-bytes .ensures)
 
 pub put-spec : {M : Type 1} → statement M
 put-spec =
@@ -50,11 +44,7 @@ put-spec =
     slice-write-room
     add-room
     slice-write-room-2
-    cast-room
-    add-room-2
-    slice-write-room-3
-    cast-room-2
-    add-room-3
-    slice-write-room-4
+    add-put-two-bytes
+    put-two-bytes-requires
     same-length
     returns)

@@ -2,11 +2,16 @@
 use Prim.Native.Nat.{ℕ, _+_}
 use mathlib.Core.Path.{ap, ap₂, _∙_}
 use mathlib.Core.List.{[], _∷_}
+use Rattle.query.specs.Kind.{rowOf}
+use Rattle.tables.specs.Shape.{leftOf, rightOf}
 use Rattle.written.specs.Written.{moved, renumber}
-use Rattle.writer.specs.Laid.{laid, fields}
+use Rattle.tables.specs.Laid.{laid, fields}
 use borrow.Author.Needs.{needs}
 use Rattle.writer.proofs.entry.put_raised.Statement.{statement}
 use Rattle.writer.proofs.entry.put_raised.Tie as tie
+
+wide-requires : tie.Need-wide-requires
+wide-requires c κs = search needs
 
 shape-of-requires : tie.Need-shape-of-requires
 shape-of-requires c κs = search needs
@@ -30,17 +35,19 @@ returns c =
     let second = at-put .before .before in
     let first = second .before in
     let shape = first .before in
-    let a = shape .before .before .args in
+    let kind = shape .before in
+    let a = kind .before .before .args in
     let to : ℕ → ℕ = λ x. x + a .distance in
     at-put .put .ensures
     ∙ ap₂ (λ (l r : ℕ). laid (a .out .now) (a .at) (fields (a .kind) (a .label) l r ∷ []))
-    (first .raised .ensures ∙ ap (λ (sort : ℕ). moved to sort (a .left)) (shape .shape-of .ensures .left))
-    (second .raised2 .ensures ∙ ap (λ (sort : ℕ). moved to sort (a .right)) (shape .shape-of .ensures .right))
+    (first .raised .ensures ∙ ap (λ (sort : ℕ). moved to sort (a .left)) (shape .shape-of .ensures .left ∙ ap (λ (k : ℕ). leftOf (rowOf k)) (kind .wide .ensures .0)))
+    (second .raised2 .ensures ∙ ap (λ (sort : ℕ). moved to sort (a .right)) (shape .shape-of .ensures .right ∙ ap (λ (k : ℕ). rightOf (rowOf k)) (kind .wide .ensures .0)))
 
 pub put-raised-spec : {M : Type 1} → statement M
 put-raised-spec =
     tie.close
     (tie.spec
+    wide-requires
     shape-of-requires
     raised-requires
     raised-requires-2

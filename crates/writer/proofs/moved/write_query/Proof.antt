@@ -8,7 +8,7 @@ use borrow.Author.Needs.{needs}
 use lib.ListN.{length, take}
 use Rattle.query.specs.Table.{entries, entryAt, entryBytes}
 use Rattle.written.specs.Written.{entry, viewEntry}
-use Rattle.writer.specs.Laid.{laid}
+use Rattle.tables.specs.Laid.{laid}
 use Rattle.writer.proofs.Laying.{laid-next, laid-all, laid-same}
 use Rattle.writer.proofs.moved.write_query.Statement.{statement}
 use Rattle.writer.proofs.moved.write_query.Tie as tie

@@ -1,10 +1,11 @@
--- `writer::records::put_record` meets its contract. Assumes nothing.
-use Prim.Native.Nat.{_+_}
-use lib.Dec.{lit<}
+-- `put_record`: the pair's six entries, one with the filter, and the last two. Assumes nothing.
+use Prim.Native.Nat.{ℕ, _+_}
+use mathlib.Core.Path.{refl}
+use mathlib.Core.List.{[], _∷_, _++_}
 use Rattle.reply.specs.Bytes.{Bytes}
 use Rattle.query.specs.Table.{Entries}
-use Rattle.written.specs.Written.{entry, nineEntries}
-use Rattle.writer.proofs.Laying.{laid-step}
+use Rattle.written.specs.Written.{entry, pairEntries, eitherEntries}
+use Rattle.writer.proofs.Laying.{laid-more}
 use borrow.Author.Needs.{needs}
 use Rattle.writer.proofs.records.put_record.Statement.{statement}
 use Rattle.writer.proofs.records.put_record.Tie as tie
@@ -24,45 +25,27 @@ add-put-2 c = search needs
 put-requires : tie.Need-put-requires
 put-requires c κs = search needs
 
-add-put-3 : tie.Need-add-put-3
-add-put-3 c = search needs
+add-put-either : tie.Need-add-put-either
+add-put-either c = search needs
 
-add-put-4 : tie.Need-add-put-4
-add-put-4 c = search needs
-
-sub-put : tie.Need-sub-put
-sub-put c = search needs
-
-put-requires-2 : tie.Need-put-requires-2
-put-requires-2 c κs = search needs
-
-add-put-5 : tie.Need-add-put-5
-add-put-5 c = search needs
-
-add-put-6 : tie.Need-add-put-6
-add-put-6 c = search needs
-
-sub-put-2 : tie.Need-sub-put-2
-sub-put-2 c = search needs
-
-put-requires-3 : tie.Need-put-requires-3
-put-requires-3 c κs = search needs
+put-either-requires : tie.Need-put-either-requires
+put-either-requires c κs = search needs
 
 same-length : tie.Need-same-length
 same-length c = search needs
 
 returns : tie.Need-returns
 returns c =
-    let third = c .before .before in
-    let second = third .before .before .before .before in
-    let first = second .before .before .before .before in
-    let pair = first .before .before .before .before in
+    let last = c .before .before in
+    let shown = last .before .before .before .before in
+    let pair = shown .before .before .before .before in
     let a = pair .before .before .before .args in
     let out : Bytes = a .out .now in
-    let all : Entries = nineEntries (a .first) (a .first + a .at) (a .parent) (a .child) (a .filter) in
-    let w7 = laid-step out (a .at) all (entry 0 0 0) 6 (lit< tt) (pair .put-pair .ensures) (first .put .ensures) in
-    let w8 = laid-step out (a .at) all (entry 0 0 0) 7 (lit< tt) w7 (second .put2 .ensures) in
-    laid-step out (a .at) all (entry 0 0 0) 8 (lit< tt) w8 (third .put3 .ensures)
+    let b : ℕ = a .first + a .at in
+    let six : Entries = pairEntries (a .first) b (a .parent) (a .child) in
+    let seventh : Entries = entry 21 (b + 5) (a .filter) ∷ [] in
+    let seven = laid-more out (a .at) six seventh (pair .put-pair .ensures) refl (shown .put .ensures) in
+    laid-more out (a .at) (six ++ seventh) (eitherEntries b) seven refl (last .put-either .ensures)
 
 pub put-record-spec : {M : Type 1} → statement M
 put-record-spec =
@@ -73,13 +56,7 @@ put-record-spec =
     add-put
     add-put-2
     put-requires
-    add-put-3
-    add-put-4
-    sub-put
-    put-requires-2
-    add-put-5
-    add-put-6
-    sub-put-2
-    put-requires-3
+    add-put-either
+    put-either-requires
     same-length
     returns)

@@ -3,7 +3,7 @@ use mathlib.Core.Path.{_≡_, ap, _∙_}
 use mathlib.Core.List.{[], _∷_}
 use Rattle.query.specs.Table.{Entry}
 use Rattle.written.specs.Written.{raise, axisRow}
-use Rattle.writer.specs.Laid.{laid, fields}
+use Rattle.tables.specs.Laid.{laid, fields}
 use borrow.Author.Needs.{needs}
 use Rattle.writer.proofs.rows.put_row.Statement.{statement}
 use Rattle.writer.proofs.rows.put_row.Tie as tie
@@ -17,9 +17,6 @@ wide-requires c κs = search needs
 wide-requires-2 : tie.Need-wide-requires-2
 wide-requires-2 c κs = search needs
 
-wide-requires-3 : tie.Need-wide-requires-3
-wide-requires-3 c κs = search needs
-
 put-raised-requires : tie.Need-put-raised-requires
 put-raised-requires c κs = search needs
 
@@ -31,11 +28,10 @@ returns c =
     let at-put = c .before .before in
     let right = at-put .before in
     let left = right .before in
-    let kind = left .before in
-    let row = kind .before .before in
+    let row = left .before .before in
     let a = row .before .before .args in
-    let same : fields (kind .wide .result) 0 (left .wide2 .result) (right .wide3 .result) ≡ axisRow (a .k) =
-    rw (kind .wide .ensures .0, left .wide2 .ensures .0, right .wide3 .ensures .0) (row .row-at .ensures) in
+    let same : fields (row .row-at .result .0) 0 (left .wide .result) (right .wide2 .result) ≡ axisRow (a .k) =
+    rw (left .wide .ensures .0, right .wide2 .ensures .0) (row .row-at .ensures) in
     at-put .put-raised .ensures ∙ ap (λ (e : Entry). laid (a .out .now) (a .at) (raise (a .distance) e ∷ [])) same
 
 pub put-row-spec : {M : Type 1} → statement M
@@ -45,7 +41,6 @@ put-row-spec =
     row-at-requires
     wide-requires
     wide-requires-2
-    wide-requires-3
     put-raised-requires
     same-length
     returns)

@@ -8,7 +8,7 @@ use borrow.Author.Needs.{needs}
 use lib.ListN.{length, take}
 use Rattle.query.specs.Table.{entryBytes}
 use Rattle.written.specs.Written.{entry, raise, axisRows}
-use Rattle.writer.specs.Laid.{laid}
+use Rattle.tables.specs.Laid.{laid}
 use Rattle.writer.proofs.Laying.{laid-next, laid-all, laid-same}
 use Rattle.writer.proofs.rows.write_rows.Statement.{statement}
 use Rattle.writer.proofs.rows.write_rows.Tie as tie
