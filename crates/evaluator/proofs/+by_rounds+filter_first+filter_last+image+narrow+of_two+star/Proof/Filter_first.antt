@@ -4,10 +4,12 @@ use Prim.Native.Nat.{ℕ, _*_, _<_}
 use native.Mathlib.Omega.{arith}
 use mathlib.Core.Path.{sym, subst}
 use borrow.Author.Needs.{needs}
+use borrow.Fn.Kinds.{In}
 use denote.Ref.{now}
 use lib.Dec.{T}
 use lib.ListN.{length}
 use Rattle.tree.specs.Tree.{Tree}
+use Rattle.tree.proofs.Calls as calls
 use Rattle.roll.specs.Roll.{nodes, Roll}
 use Rattle.roll.proofs.Deciding.{roll-in-order, roll-most}
 use Rattle.query.specs.Kind.{path}
@@ -20,7 +22,7 @@ use Rattle.evaluator.proofs.Filtered.{filtered-first}
 use Rattle.evaluator.proofs.Images.{image-inside, image-star, image-then}
 use Rattle.evaluator.proofs.Rounds.{no-round}
 use Rattle.evaluator.proofs.Stepping.{steps-stay, step-from, every-covers}
-use Rattle.evaluator.proofs.+by_rounds+filter_first+filter_last+image+narrow+of_two+star.Proof.Measures.{filter-first-at, image-below}
+use Rattle.evaluator.proofs.+by_rounds+filter_first+filter_last+image+narrow+of_two+star.Proof.Measures.{μ-filter-first, μ-image}
 use Rattle.evaluator.proofs.+by_rounds+filter_first+filter_last+image+narrow+of_two+star.Lts-filter_first as lts
 use Rattle.evaluator.proofs.image.Reads as image
 use Rattle.evaluator.proofs.filter_first.Reads as filter-first
@@ -30,14 +32,19 @@ use Rattle.steps.proofs.closure.Reads as closure
 use Rattle.steps.proofs.step.Reads as step
 use Rattle.sets.proofs.difference.Reads as difference
 use Rattle.sets.proofs.is_empty.Reads as is-empty
+use Rattle.evaluator.proofs.filter_first.Kinds as filter-first-kinds
+use Rattle.evaluator.proofs.image.Kinds as image-kinds
 
--- what its callees ask and say
-abbrev pub claims : ℕ → lts.Claims
-claims t = (image-below t, image.Post, step.Asked, step.Learnt, difference.Asked, difference.Learnt, is-empty.Asked, is-empty.Learnt, count.Asked, count.Learnt, below.Asked, below.Learnt, closure.Asked, closure.Learnt)
+-- what it is given, and what its callees ask and say
+abbrev own : ℕ → In 5 filter-first-kinds.ps
+own = calls.given filter-first-kinds.ps μ-filter-first filter-first.Pre
+
+abbrev claims : ℕ → lts.Claims
+claims t = (calls.asked image-kinds.ps μ-image image.Pre t, image.Post, step.Asked, step.Learnt, difference.Asked, difference.Learnt, is-empty.Asked, is-empty.Learnt, count.Asked, count.Learnt, below.Asked, below.Learnt, closure.Asked, closure.Learnt)
 
 module _ (t : ℕ) where
   -- what it was given
-  module _ (c : lts.Start (claims t) (filter-first-at t) filter-first.Post) where
+  module _ (c : lts.Start (claims t) (own t) filter-first.Post) where
     abbrev tree : Tree
     tree = nodes (now (c .args .roll))
 
@@ -51,20 +58,20 @@ module _ (t : ℕ) where
     rolled = (given .grounds .roll-right, given .grounds .links)
 
   -- one go from the start
-  pub image-requires : lts.Need-image-requires (claims t) (filter-first-at t) filter-first.Post
+  image-requires : lts.Need-image-requires (claims t) (own t) filter-first.Post
   image-requires c κs = let s = c .before .before in (omega (arith, s .pre .0), (given s, asked s))
 
-  pub step-requires : lts.Need-step-requires (claims t) (filter-first-at t) filter-first.Post
+  step-requires : lts.Need-step-requires (claims t) (own t) filter-first.Post
   step-requires c κs = rolled (c .before .before .before)
 
-  pub difference-requires : lts.Need-difference-requires (claims t) (filter-first-at t) filter-first.Post
+  difference-requires : lts.Need-difference-requires (claims t) (own t) filter-first.Post
   difference-requires c κs = search needs
 
-  pub is-empty-requires : lts.Need-is-empty-requires (claims t) (filter-first-at t) filter-first.Post
+  is-empty-requires : lts.Need-is-empty-requires (claims t) (own t) filter-first.Post
   is-empty-requires c κs = search needs
 
   -- adds nothing
-  pub returns : lts.Need-returns (claims t) (filter-first-at t) filter-first.Post
+  returns : lts.Need-returns (claims t) (own t) filter-first.Post
   returns c =
       let tested = c .before in
       let fresh = tested .before in
@@ -73,32 +80,36 @@ module _ (t : ℕ) where
       (tested .is-empty .ensures .0 (subst T (sym (c .if1 .taken)) tt))
 
   -- or the filter is asked of all nodes
-  pub count-requires : lts.Need-count-requires (claims t) (filter-first-at t) filter-first.Post
+  count-requires : lts.Need-count-requires (claims t) (own t) filter-first.Post
   count-requires c κs = search needs
 
-  pub below-requires : lts.Need-below-requires (claims t) (filter-first-at t) filter-first.Post
+  below-requires : lts.Need-below-requires (claims t) (own t) filter-first.Post
   below-requires c κs =
       let s = c .before .before .before .before .before .before .before .before in
       rw (c .count .ensures) (roll-most (given s .grounds .roll-right))
 
   -- all nodes cover the star
-  covered : (c : lts.After-below (claims t) (filter-first-at t) filter-first.Post) → let s = c .before .before .before .before .before .before .before .before .before in
+  covered : (c : lts.After-below (claims t) (own t) filter-first.Post) → let s = c .before .before .before .before .before .before .before .before .before in
       Covers (AlongAny (tree s) (s .args .axes)) (s .args .from) (c .below .result) × Inside (length (tree s)) (c .below .result)
   covered c =
       let s = c .before .before .before .before .before .before .before .before .before in
       let g = given s .grounds .roll-right in
       every-covers (roll-in-order g) (roll-most g) (c .before .count .ensures) (c .below .ensures) (asked s .nodes-only)
 
-  pub image-requires-2 : lts.Need-image-requires-2 (claims t) (filter-first-at t) filter-first.Post
+  image-requires-2 : lts.Need-image-requires-2 (claims t) (own t) filter-first.Post
   image-requires-2 c κs =
       let s = c .before .before .before .before .before .before .before .before .before in
       (omega (arith, s .pre .0), (given s, record { entry = asked s .entry; nodes-only = covered c .1 }))
 
-  pub closure-requires : lts.Need-closure-requires (claims t) (filter-first-at t) filter-first.Post
+  closure-requires : lts.Need-closure-requires (claims t) (own t) filter-first.Post
   closure-requires c κs = rolled (c .before .before .before .before .before .before .before .before .before .before)
 
-  pub returns-2 : lts.Need-returns-2 (claims t) (filter-first-at t) filter-first.Post
+  returns-2 : lts.Need-returns-2 (claims t) (own t) filter-first.Post
   returns-2 c =
       let held = c .before in
       let s = held .before .before .before .before .before .before .before .before .before .before in
       filtered-first (s .pre .1 .1 (tree s)) (covered (held .before) .0) (held .image2 .ensures) (image-star step-from (c .closure .ensures))
+
+  pub meets : {M : Type 1} → lts.Closed (claims t) (own t) filter-first.Post M
+  meets = lts.spec (claims t) (own t) filter-first.Post image-requires step-requires difference-requires is-empty-requires returns
+      count-requires below-requires image-requires-2 closure-requires returns-2

@@ -7,10 +7,12 @@ use mathlib.Core.Path.{_≡_, sym, subst, _∙_}
 use mathlib.Core.Logic.{Iff·symm, Iff·trans}
 use mathlib.Core.List.{List}
 use borrow.Author.Needs.{needs}
+use borrow.Fn.Kinds.{In}
 use denote.Ref.{now}
 use lib.ListN.{length}
 use lib.Dec.{T}
 use Rattle.tree.specs.Tree.{Tree}
+use Rattle.tree.proofs.Calls as calls
 use Rattle.roll.specs.Roll.{nodes}
 use Rattle.roll.proofs.Deciding.{roll-in-order}
 use Rattle.query.specs.Syntax.{Path}
@@ -26,7 +28,7 @@ use Rattle.evaluator.specs.Evaluator.{Knowing, Asked}
 use Rattle.evaluator.proofs.Images.{Stays, image-empty, image-inside, image-same, image-then}
 use Rattle.evaluator.proofs.Operands.{Read, none-behind, operand, operand-below, is-self, is-axis, is-stay, is-then, is-either, is-star}
 use Rattle.evaluator.proofs.Walks.{walk-stays, walk-self, walk-free, walk-stay, walk-either, walk-star, then-parts}
-use Rattle.evaluator.proofs.+by_rounds+filter_first+filter_last+image+narrow+of_two+star.Proof.Measures.{image-at, narrow-below, image-below, star-below}
+use Rattle.evaluator.proofs.+by_rounds+filter_first+filter_last+image+narrow+of_two+star.Proof.Measures.{μ-image, μ-narrow, μ-star}
 use Rattle.evaluator.proofs.+by_rounds+filter_first+filter_last+image+narrow+of_two+star.Lts-image as lts
 use Rattle.evaluator.proofs.narrow.Reads as narrow
 use Rattle.evaluator.proofs.image.Reads as image
@@ -40,24 +42,30 @@ use Rattle.evaluator.proofs.course.axis_of.Reads as axis-of
 use Rattle.evaluator.proofs.course.way.Reads as way
 use Rattle.steps.proofs.only.Reads as only
 use Rattle.steps.proofs.step.Reads as step
+use Rattle.evaluator.proofs.image.Kinds as image-kinds
+use Rattle.evaluator.proofs.narrow.Kinds as narrow-kinds
+use Rattle.evaluator.proofs.star.Kinds as star-kinds
 
--- what its callees ask and say
-abbrev pub claims : ℕ → lts.Claims
-claims t = (is-empty.Asked, is-empty.Learnt, entry-at.Asked, entry-at.Learnt, is-free.Asked, is-free.Learnt, narrow-below t, narrow.Post, first-of.Asked, first-of.Learnt, image-below t, image.Post, union.Asked, union.Learnt, star-below t, star.Post, axis-of.Asked, axis-of.Learnt, way.Asked, way.Learnt, only.Asked, only.Learnt, step.Asked, step.Learnt)
+-- what it is given, and what its callees ask and say
+abbrev own : ℕ → In 5 image-kinds.ps
+own = calls.given image-kinds.ps μ-image image.Pre
+
+abbrev claims : ℕ → lts.Claims
+claims t = (is-empty.Asked, is-empty.Learnt, entry-at.Asked, entry-at.Learnt, is-free.Asked, is-free.Learnt, calls.asked narrow-kinds.ps μ-narrow narrow.Pre t, narrow.Post, first-of.Asked, first-of.Learnt, calls.asked image-kinds.ps μ-image image.Pre t, image.Post, union.Asked, union.Learnt, calls.asked star-kinds.ps μ-star star.Pre t, star.Post, axis-of.Asked, axis-of.Learnt, way.Asked, way.Learnt, only.Asked, only.Learnt, step.Asked, step.Learnt)
 
 module _ (t : ℕ) where
-  pub is-empty-requires : lts.Need-is-empty-requires (claims t) (image-at t) image.Post
+  is-empty-requires : lts.Need-is-empty-requires (claims t) (own t) image.Post
   is-empty-requires c κs = search needs
 
-  pub returns : lts.Need-returns (claims t) (image-at t) image.Post
+  returns : lts.Need-returns (claims t) (own t) image.Post
   returns c = image-empty (c .before .is-empty .ensures .0 (subst T (sym (c .if1 .taken)) tt))
 
-  pub entry-at-requires : lts.Need-entry-at-requires (claims t) (image-at t) image.Post
+  entry-at-requires : lts.Need-entry-at-requires (claims t) (own t) image.Post
   entry-at-requires c κs = search needs
 
   -- the entry is read: what the function was given, and what it has read
-  module _ (c : lts.After-entry-at (claims t) (image-at t) image.Post) where
-    abbrev start : lts.Start (claims t) (image-at t) image.Post
+  module _ (c : lts.After-entry-at (claims t) (own t) image.Post) where
+    abbrev start : lts.Start (claims t) (own t) image.Post
     start = c .before .before .before .before .before
 
     abbrev tree : Tree
@@ -88,19 +96,19 @@ module _ (t : ℕ) where
     stays p = walk-stays tree (roll-in-order (given .grounds .roll-right)) p
 
   -- one step along an axis
-  pub axis-of-requires : lts.Need-axis-of-requires (claims t) (image-at t) image.Post
+  axis-of-requires : lts.Need-axis-of-requires (claims t) (own t) image.Post
   axis-of-requires c κs = search needs
 
-  pub way-requires : lts.Need-way-requires (claims t) (image-at t) image.Post
+  way-requires : lts.Need-way-requires (claims t) (own t) image.Post
   way-requires c κs = search needs
 
-  pub only-requires : lts.Need-only-requires (claims t) (image-at t) image.Post
+  only-requires : lts.Need-only-requires (claims t) (own t) image.Post
   only-requires c κs = search needs
 
-  pub step-requires : lts.Need-step-requires (claims t) (image-at t) image.Post
+  step-requires : lts.Need-step-requires (claims t) (own t) image.Post
   step-requires c κs = let g = given (c .before .before .before .before .before .before) in (g .grounds .roll-right, g .grounds .links)
 
-  pub returns-7 : lts.Need-returns-7 (claims t) (image-at t) image.Post
+  returns-7 : lts.Need-returns-7 (claims t) (own t) image.Post
   returns-7 c =
       let alone = c .before in
       let turned = alone .before in
@@ -110,22 +118,22 @@ module _ (t : ℕ) where
       (image-same (λ i j. Iff·trans (alone .only .ensures (tree k) i j) (turned .way .ensures (tree k) i j)) (c .step .ensures))
 
   -- stay if the filter holds, or where it is taken to hold
-  pub is-free-requires : lts.Need-is-free-requires (claims t) (image-at t) image.Post
+  is-free-requires : lts.Need-is-free-requires (claims t) (own t) image.Post
   is-free-requires c κs = search needs
 
-  pub returns-2 : lts.Need-returns-2 (claims t) (image-at t) image.Post
+  returns-2 : lts.Need-returns-2 (claims t) (own t) image.Post
   returns-2 c =
       let tested = c .before in
       let k = tested .before .before in
       rw (is-stay (read k) (tested .before .match .keys1) .1)
       (walk-free (tree k) (start k .args .course) _ (sym (tested .is-free .ensures) ∙ c .if2 .taken))
 
-  pub narrow-requires : lts.Need-narrow-requires (claims t) (image-at t) image.Post
+  narrow-requires : lts.Need-narrow-requires (claims t) (own t) image.Post
   narrow-requires c κs =
       let k = c .before .before .before in
       ask k (is-stay (read k) (c .before .before .match .keys1) .0) (inside k)
 
-  pub returns-3 : lts.Need-returns-3 (claims t) (image-at t) image.Post
+  returns-3 : lts.Need-returns-3 (claims t) (own t) image.Post
   returns-3 c =
       let tested = c .before .before in
       let k = tested .before .before in
@@ -133,7 +141,7 @@ module _ (t : ℕ) where
       (walk-stay (tree k) (start k .args .course) _ (sym (tested .is-free .ensures) ∙ c .before .if2 .left) (c .narrow .ensures))
 
   -- left, then right, or the other way round: what comes first is asked of the set, and what comes second of what that reaches
-  first-asked : (c : lts.After-entry-at (claims t) (image-at t) image.Post) {set : List ℕ} → c .entry-at .result .kind ≡ 7 → Inside (length (tree c)) set
+  first-asked : (c : lts.After-entry-at (claims t) (own t) image.Post) {set : List ℕ} → c .entry-at .result .kind ≡ 7 → Inside (length (tree c)) set
       → (course : Course)
       → Callable c path (firstOf course (c .entry-at .result .left) (c .entry-at .result .right)) set
       × Callable c path (firstOf course (c .entry-at .result .right) (c .entry-at .result .left)) set
@@ -141,20 +149,20 @@ module _ (t : ℕ) where
   first-asked c is within Backwards = let (l, r) = is-then (read c) is .0 in (ask c r within, ask c l within)
   first-asked c is within Freely = let (l, r) = is-then (read c) is .0 in (ask c l within, ask c r within)
 
-  pub first-of-requires : lts.Need-first-of-requires (claims t) (image-at t) image.Post
+  first-of-requires : lts.Need-first-of-requires (claims t) (own t) image.Post
   first-of-requires c κs = search needs
 
-  pub image-requires : lts.Need-image-requires (claims t) (image-at t) image.Post
+  image-requires : lts.Need-image-requires (claims t) (own t) image.Post
   image-requires c κs =
       let one = c .before in
       let m = one .before in
       let k = m .before in
       rw (one .first-of .ensures) (first-asked k (m .match .keys2) (inside k) (start k .args .course) .0)
 
-  pub first-of-requires-2 : lts.Need-first-of-requires-2 (claims t) (image-at t) image.Post
+  first-of-requires-2 : lts.Need-first-of-requires-2 (claims t) (own t) image.Post
   first-of-requires-2 c κs = search needs
 
-  pub image-requires-2 : lts.Need-image-requires-2 (claims t) (image-at t) image.Post
+  image-requires-2 : lts.Need-image-requires-2 (claims t) (own t) image.Post
   image-requires-2 c κs =
       let two = c .before in
       let m = two .before .before in
@@ -162,7 +170,7 @@ module _ (t : ℕ) where
       rw (two .first-of2 .ensures)
       (first-asked k (m .match .keys2) (image-inside (stays k _) (inside k) (c .image .ensures)) (start k .args .course) .1)
 
-  pub returns-4 : lts.Need-returns-4 (claims t) (image-at t) image.Post
+  returns-4 : lts.Need-returns-4 (claims t) (own t) image.Post
   returns-4 c =
       let half = c .before in
       let two = half .before in
@@ -175,20 +183,20 @@ module _ (t : ℕ) where
       (image-same (λ i j. Iff·symm (then-parts (pathAt es) (start k .args .course) _ _ (tree k) i j)) (image-then first second))
 
   -- left or right
-  pub image-requires-3 : lts.Need-image-requires-3 (claims t) (image-at t) image.Post
+  image-requires-3 : lts.Need-image-requires-3 (claims t) (own t) image.Post
   image-requires-3 c κs =
       let k = c .before in
       ask k (is-either (read k) (c .match .keys3) .0 .0) (inside k)
 
-  pub image-requires-4 : lts.Need-image-requires-4 (claims t) (image-at t) image.Post
+  image-requires-4 : lts.Need-image-requires-4 (claims t) (own t) image.Post
   image-requires-4 c κs =
       let k = c .before .before in
       ask k (is-either (read k) (c .before .match .keys3) .0 .1) (inside k)
 
-  pub union-requires : lts.Need-union-requires (claims t) (image-at t) image.Post
+  union-requires : lts.Need-union-requires (claims t) (own t) image.Post
   union-requires c κs = search needs
 
-  pub returns-5 : lts.Need-returns-5 (claims t) (image-at t) image.Post
+  returns-5 : lts.Need-returns-5 (claims t) (own t) image.Post
   returns-5 c =
       let other = c .before in
       let one = other .before in
@@ -197,28 +205,34 @@ module _ (t : ℕ) where
       (walk-either (tree k) _ _ (start k .args .course) (one .image3 .ensures) (other .image4 .ensures) (c .union .ensures))
 
   -- zero or more times
-  pub star-requires : lts.Need-star-requires (claims t) (image-at t) image.Post
+  star-requires : lts.Need-star-requires (claims t) (own t) image.Post
   star-requires c κs =
       let k = c .before in
       operand (given k) (read k .entry) (measured k) (is-star (read k) (c .match .keys4) .0) (inside k)
 
-  pub returns-6 : lts.Need-returns-6 (claims t) (image-at t) image.Post
+  returns-6 : lts.Need-returns-6 (claims t) (own t) image.Post
   returns-6 c =
       let k = c .before .before in
       rw (is-star (read k) (c .before .match .keys4) .1) (walk-star (tree k) (start k .args .course) _ (c .star .ensures))
 
   -- self is the one path that is left, and none is behind 9
-  numbers : (c : lts.After-entry-at (claims t) (image-at t) image.Post) → (1 ≤ c .entry-at .result .kind) × (c .entry-at .result .kind ≤ 9)
+  numbers : (c : lts.After-entry-at (claims t) (own t) image.Post) → (1 ≤ c .entry-at .result .kind) × (c .entry-at .result .kind ≤ 9)
   numbers c = rw (read c .fields .kind) (path-kind (entries (now (start c .args .table))) (start c .args .e) (read c .entry .sort))
 
-  pub returns-8 : lts.Need-returns-8 (claims t) (image-at t) image.Post
+  returns-8 : lts.Need-returns-8 (claims t) (own t) image.Post
   returns-8 c =
       let k = c .before .before in
       rw (is-self (read k) (omega (arith, numbers k))) (walk-self (tree k) (start k .args .course))
 
-  pub returns-9 : lts.Need-returns-9 (claims t) (image-at t) image.Post
+  returns-9 : lts.Need-returns-9 (claims t) (own t) image.Post
   returns-9 c =
       let rest = c .before .before in
       let left = rest .match .rest in
       let low = none-behind (numbers (rest .before) .1) (left .0 .0 .0 .1) (left .0 .0 .1) (left .0 .1) (left .1) in
       absurd (lt-irrefl _ (lt-of-lt-of-le low (c .if4 .left)))
+
+  pub meets : {M : Type 1} → lts.Closed (claims t) (own t) image.Post M
+  meets = lts.spec (claims t) (own t) image.Post is-empty-requires returns entry-at-requires is-free-requires narrow-requires
+      first-of-requires first-of-requires-2 image-requires image-requires-2 image-requires-3 image-requires-4 union-requires star-requires
+      axis-of-requires way-requires only-requires step-requires returns-2 returns-3 returns-4 returns-5 returns-6 returns-7 returns-8
+      returns-9

@@ -5,10 +5,12 @@ use native.Mathlib.Omega.{arith}
 use mathlib.Core.Path.{_≡_, sym, subst}
 use mathlib.Core.List.{List}
 use borrow.Author.Needs.{needs}
+use borrow.Fn.Kinds.{In}
 use denote.Ref.{now}
 use lib.ListN.{length}
 use lib.Dec.{T}
 use Rattle.tree.specs.Tree.{Tree}
+use Rattle.tree.proofs.Calls as calls
 use Rattle.roll.specs.Roll.{nodes}
 use Rattle.roll.proofs.Deciding.{roll-in-order}
 use Rattle.query.specs.Syntax.{Path}
@@ -23,7 +25,7 @@ use Rattle.evaluator.proofs.Images.{Stays, image-inside, narrowed-insid
 use Rattle.evaluator.proofs.Filters.{narrow-empty, narrow-known, narrow-always, narrow-never, narrow-leads, narrow-not, narrow-and, narrow-or}
 use Rattle.evaluator.proofs.Operands.{Read, operand-below, is-labelled, is-leads, is-always, is-never, is-not, is-and, is-or}
 use Rattle.evaluator.proofs.Walks.{walk-stays}
-use Rattle.evaluator.proofs.+by_rounds+filter_first+filter_last+image+narrow+of_two+star.Proof.Measures.{narrow-at, image-below, narrow-below}
+use Rattle.evaluator.proofs.+by_rounds+filter_first+filter_last+image+narrow+of_two+star.Proof.Measures.{μ-image, μ-narrow}
 use Rattle.evaluator.proofs.+by_rounds+filter_first+filter_last+image+narrow+of_two+star.Lts-narrow as lts
 use Rattle.evaluator.proofs.image.Reads as image
 use Rattle.evaluator.proofs.narrow.Reads as narrow
@@ -34,35 +36,40 @@ use Rattle.steps.proofs.labelled.Reads as labelled
 use Rattle.sets.proofs.difference.Reads as difference
 use Rattle.sets.proofs.union.Reads as union
 use Rattle.sets.proofs.empty.Reads as empty
+use Rattle.evaluator.proofs.image.Kinds as image-kinds
+use Rattle.evaluator.proofs.narrow.Kinds as narrow-kinds
 
--- what its callees ask and say
-abbrev pub claims : ℕ → lts.Claims
-claims t = (is-empty.Asked, is-empty.Learnt, common.Asked, common.Learnt, entry-at.Asked, entry-at.Learnt, labelled.Asked, labelled.Learnt, image-below t, image.Post, narrow-below t, narrow.Post, difference.Asked, difference.Learnt, union.Asked, union.Learnt, empty.Asked, empty.Learnt)
+-- what it is given, and what its callees ask and say
+abbrev own : ℕ → In 5 narrow-kinds.ps
+own = calls.given narrow-kinds.ps μ-narrow narrow.Pre
+
+abbrev claims : ℕ → lts.Claims
+claims t = (is-empty.Asked, is-empty.Learnt, common.Asked, common.Learnt, entry-at.Asked, entry-at.Learnt, labelled.Asked, labelled.Learnt, calls.asked image-kinds.ps μ-image image.Pre t, image.Post, calls.asked narrow-kinds.ps μ-narrow narrow.Pre t, narrow.Post, difference.Asked, difference.Learnt, union.Asked, union.Learnt, empty.Asked, empty.Learnt)
 
 module _ (t : ℕ) where
-  pub is-empty-requires : lts.Need-is-empty-requires (claims t) (narrow-at t) narrow.Post
+  is-empty-requires : lts.Need-is-empty-requires (claims t) (own t) narrow.Post
   is-empty-requires c κs = search needs
 
-  pub returns : lts.Need-returns (claims t) (narrow-at t) narrow.Post
+  returns : lts.Need-returns (claims t) (own t) narrow.Post
   returns c = narrow-empty (c .before .is-empty .ensures .0 (subst T (sym (c .if1 .taken)) tt))
 
   -- where the filter holds is known
-  pub common-requires : lts.Need-common-requires (claims t) (narrow-at t) narrow.Post
+  common-requires : lts.Need-common-requires (claims t) (own t) narrow.Post
   common-requires c κs = search needs
 
-  pub returns-2 : lts.Need-returns-2 (claims t) (narrow-at t) narrow.Post
+  returns-2 : lts.Need-returns-2 (claims t) (own t) narrow.Post
   returns-2 c =
       let same = c .before .before in
       let start = same .before .before .before .before .before in
       let entry = start .pre .1 .1 .entry .within in
       narrow-known (λ e. holds (nodes (now (start .args .roll))) (filterAt (entries (now (start .args .table))) e)) (same .if2 .taken) (start .pre .1 .0 .answer) entry (start .pre .1 .1 .nodes-only) (c .common .ensures)
 
-  pub entry-at-requires : lts.Need-entry-at-requires (claims t) (narrow-at t) narrow.Post
+  entry-at-requires : lts.Need-entry-at-requires (claims t) (own t) narrow.Post
   entry-at-requires c κs = search needs
 
   -- the entry is read: what the function was given, and what it has read
-  module _ (c : lts.After-entry-at (claims t) (narrow-at t) narrow.Post) where
-    abbrev start : lts.Start (claims t) (narrow-at t) narrow.Post
+  module _ (c : lts.After-entry-at (claims t) (own t) narrow.Post) where
+    abbrev start : lts.Start (claims t) (own t) narrow.Post
     start = c .before .before .before .before .before .before
 
     abbrev tree : Tree
@@ -89,22 +96,22 @@ module _ (t : ℕ) where
     ask = operand-below given (read .entry) measured
 
   -- label is the given one
-  pub labelled-requires : lts.Need-labelled-requires (claims t) (narrow-at t) narrow.Post
+  labelled-requires : lts.Need-labelled-requires (claims t) (own t) narrow.Post
   labelled-requires c κs = search needs
 
-  pub returns-3 : lts.Need-returns-3 (claims t) (narrow-at t) narrow.Post
+  returns-3 : lts.Need-returns-3 (claims t) (own t) narrow.Post
   unfolding holds
   returns-3 c =
       let k = c .before .before in
       rw (is-labelled (read k) (c .before .match .keys1)) (c .labelled .ensures)
 
   -- left leads somewhere
-  pub image-requires : lts.Need-image-requires (claims t) (narrow-at t) narrow.Post
+  image-requires : lts.Need-image-requires (claims t) (own t) narrow.Post
   image-requires c κs =
       let k = c .before in
       ask k (is-leads (read k) (c .match .keys2) .0) (inside k)
 
-  pub image-requires-2 : lts.Need-image-requires-2 (claims t) (narrow-at t) narrow.Post
+  image-requires-2 : lts.Need-image-requires-2 (claims t) (own t) narrow.Post
   image-requires-2 c κs =
       let k = c .before .before in
       let left = is-leads (read k) (c .before .match .keys2) .0 in
@@ -112,10 +119,10 @@ module _ (t : ℕ) where
       let asked = ask k left (inside k) in
       search (ends, asked)
 
-  pub common-requires-2 : lts.Need-common-requires-2 (claims t) (narrow-at t) narrow.Post
+  common-requires-2 : lts.Need-common-requires-2 (claims t) (own t) narrow.Post
   common-requires-2 c κs = search needs
 
-  pub returns-4 : lts.Need-returns-4 (claims t) (narrow-at t) narrow.Post
+  returns-4 : lts.Need-returns-4 (claims t) (own t) narrow.Post
   unfolding holds
   returns-4 c =
       let starts = c .before in
@@ -126,62 +133,62 @@ module _ (t : ℕ) where
       (narrow-leads (free-reaches (tree k) p) (turn-right (tree k) p) (ends .image .ensures) (starts .image2 .ensures) (c .common2 .ensures))
 
   -- true
-  pub returns-5 : lts.Need-returns-5 (claims t) (narrow-at t) narrow.Post
+  returns-5 : lts.Need-returns-5 (claims t) (own t) narrow.Post
   unfolding holds
   returns-5 c = let k = c .before in rw (is-always (read k) (c .match .keys3)) narrow-always
 
   -- not
-  pub narrow-requires : lts.Need-narrow-requires (claims t) (narrow-at t) narrow.Post
+  narrow-requires : lts.Need-narrow-requires (claims t) (own t) narrow.Post
   narrow-requires c κs =
       let k = c .before in
       ask k (is-not (read k) (c .match .keys4) .0) (inside k)
 
-  pub difference-requires : lts.Need-difference-requires (claims t) (narrow-at t) narrow.Post
+  difference-requires : lts.Need-difference-requires (claims t) (own t) narrow.Post
   difference-requires c κs = search needs
 
-  pub returns-6 : lts.Need-returns-6 (claims t) (narrow-at t) narrow.Post
+  returns-6 : lts.Need-returns-6 (claims t) (own t) narrow.Post
   unfolding holds
   returns-6 c =
       let k = c .before .before .before in
       rw (is-not (read k) (c .before .before .match .keys4) .1) (narrow-not (c .before .narrow .ensures) (c .difference .ensures))
 
   -- and
-  pub narrow-requires-2 : lts.Need-narrow-requires-2 (claims t) (narrow-at t) narrow.Post
+  narrow-requires-2 : lts.Need-narrow-requires-2 (claims t) (own t) narrow.Post
   narrow-requires-2 c κs =
       let k = c .before in
       ask k (is-and (read k) (c .match .keys5) .0 .0) (inside k)
 
-  pub narrow-requires-3 : lts.Need-narrow-requires-3 (claims t) (narrow-at t) narrow.Post
+  narrow-requires-3 : lts.Need-narrow-requires-3 (claims t) (own t) narrow.Post
   narrow-requires-3 c κs =
       let k = c .before .before in
       let within = narrowed-inside (inside k) (c .narrow2 .ensures) in
       ask k (is-and (read k) (c .before .match .keys5) .0 .1) within
 
-  pub returns-7 : lts.Need-returns-7 (claims t) (narrow-at t) narrow.Post
+  returns-7 : lts.Need-returns-7 (claims t) (own t) narrow.Post
   unfolding holds
   returns-7 c =
       let k = c .before .before .before in
       rw (is-and (read k) (c .before .before .match .keys5) .1) (narrow-and (c .before .narrow2 .ensures) (c .narrow3 .ensures))
 
   -- or
-  pub narrow-requires-4 : lts.Need-narrow-requires-4 (claims t) (narrow-at t) narrow.Post
+  narrow-requires-4 : lts.Need-narrow-requires-4 (claims t) (own t) narrow.Post
   narrow-requires-4 c κs =
       let k = c .before in
       ask k (is-or (read k) (c .match .keys6) .0 .0) (inside k)
 
-  pub difference-requires-2 : lts.Need-difference-requires-2 (claims t) (narrow-at t) narrow.Post
+  difference-requires-2 : lts.Need-difference-requires-2 (claims t) (own t) narrow.Post
   difference-requires-2 c κs = search needs
 
-  pub narrow-requires-5 : lts.Need-narrow-requires-5 (claims t) (narrow-at t) narrow.Post
+  narrow-requires-5 : lts.Need-narrow-requires-5 (claims t) (own t) narrow.Post
   narrow-requires-5 c κs =
       let k = c .before .before .before in
       let within = narrowed-inside (inside k) (c .difference2 .ensures) in
       ask k (is-or (read k) (c .before .before .match .keys6) .0 .1) within
 
-  pub union-requires : lts.Need-union-requires (claims t) (narrow-at t) narrow.Post
+  union-requires : lts.Need-union-requires (claims t) (own t) narrow.Post
   union-requires c κs = search needs
 
-  pub returns-8 : lts.Need-returns-8 (claims t) (narrow-at t) narrow.Post
+  returns-8 : lts.Need-returns-8 (claims t) (own t) narrow.Post
   unfolding holds
   returns-8 c =
       let second = c .before in
@@ -192,13 +199,19 @@ module _ (t : ℕ) where
       (narrow-or (first .narrow4 .ensures) (rest .difference2 .ensures) (second .narrow5 .ensures) (c .union .ensures))
 
   -- false is the one filter that is left
-  pub empty-requires : lts.Need-empty-requires (claims t) (narrow-at t) narrow.Post
+  empty-requires : lts.Need-empty-requires (claims t) (own t) narrow.Post
   empty-requires c κs = search needs
 
-  pub returns-9 : lts.Need-returns-9 (claims t) (narrow-at t) narrow.Post
+  returns-9 : lts.Need-returns-9 (claims t) (own t) narrow.Post
   unfolding holds
   returns-9 c =
       let k = c .before .before in
       let numbers = rw (← k .entry-at .ensures .kind) at (filter-kind (entries (now (start k .args .table))) (start k .args .e) (read k .entry .sort)) in
       let is : k .entry-at .result .kind ≡ 19 = omega (arith, numbers, c .before .match .rest) in
       rw (is-never (read k) is) (narrow-never (c .empty .ensures))
+
+  pub meets : {M : Type 1} → lts.Closed (claims t) (own t) narrow.Post M
+  meets = lts.spec (claims t) (own t) narrow.Post is-empty-requires returns common-requires returns-2 entry-at-requires labelled-requires
+      image-requires image-requires-2 common-requires-2 narrow-requires difference-requires narrow-requires-2 narrow-requires-3
+      narrow-requires-4 difference-requires-2 narrow-requires-5 union-requires empty-requires returns-3 returns-4 returns-5 returns-6
+      returns-7 returns-8 returns-9

@@ -6,9 +6,11 @@ use native.Mathlib.Omega.{arith}
 use mathlib.Core.Path.{_≡_, sym, subst, _∙_}
 use mathlib.Core.Logic.{Iff·symm, Iff·trans}
 use borrow.Author.Needs.{needs}
+use borrow.Fn.Kinds.{In}
 use denote.Ref.{now}
 use lib.Dec.{T}
 use Rattle.tree.specs.Tree.{Tree}
+use Rattle.tree.proofs.Calls as calls
 use Rattle.roll.specs.Roll.{nodes}
 use Rattle.query.specs.Kind.{path, of}
 use Rattle.query.specs.Meaning.{reach}
@@ -18,7 +20,7 @@ use Rattle.evaluator.specs.Evaluator.{Knowing, Asked, Still}
 use Rattle.evaluator.proofs.Images.{image-star}
 use Rattle.evaluator.proofs.Operands.{Read, operand-within, stays-at, Parts, parts-of}
 use Rattle.evaluator.proofs.Stepping.{then-along, along-then}
-use Rattle.evaluator.proofs.+by_rounds+filter_first+filter_last+image+narrow+of_two+star.Proof.Measures.{of-two-at, filter-first-below, filter-last-below, by-rounds-below}
+use Rattle.evaluator.proofs.+by_rounds+filter_first+filter_last+image+narrow+of_two+star.Proof.Measures.{μ-by-rounds, μ-filter-first, μ-filter-last, μ-of-two}
 use Rattle.evaluator.proofs.+by_rounds+filter_first+filter_last+image+narrow+of_two+star.Lts-of_two as lts
 use Rattle.evaluator.proofs.filter_first.Reads as filter-first
 use Rattle.evaluator.proofs.filter_last.Reads as filter-last
@@ -28,24 +30,31 @@ use Rattle.tables.proofs.entry.entry_at.Reads as entry-at
 use Rattle.evaluator.proofs.course.first_of.Reads as first-of
 use Rattle.evaluator.proofs.at_hand.stays_at_hand.Reads as stays-at-hand
 use Rattle.evaluator.proofs.ways.way_of.Reads as way-of
+use Rattle.evaluator.proofs.by_rounds.Kinds as by-rounds-kinds
+use Rattle.evaluator.proofs.filter_first.Kinds as filter-first-kinds
+use Rattle.evaluator.proofs.filter_last.Kinds as filter-last-kinds
+use Rattle.evaluator.proofs.of_two.Kinds as of-two-kinds
 
--- what its callees ask and say
-abbrev pub claims : ℕ → lts.Claims
-claims t = (entry-at.Asked, entry-at.Learnt, first-of.Asked, first-of.Learnt, stays-at-hand.Asked, stays-at-hand.Learnt, way-of.Asked, way-of.Learnt, filter-first-below t, filter-first.Post, filter-last-below t, filter-last.Post, by-rounds-below t, by-rounds.Post)
+-- what it is given, and what its callees ask and say
+abbrev own : ℕ → In 5 of-two-kinds.ps
+own = calls.given of-two-kinds.ps μ-of-two of-two.Pre
+
+abbrev claims : ℕ → lts.Claims
+claims t = (entry-at.Asked, entry-at.Learnt, first-of.Asked, first-of.Learnt, stays-at-hand.Asked, stays-at-hand.Learnt, way-of.Asked, way-of.Learnt, calls.asked filter-first-kinds.ps μ-filter-first filter-first.Pre t, filter-first.Post, calls.asked filter-last-kinds.ps μ-filter-last filter-last.Pre t, filter-last.Post, calls.asked by-rounds-kinds.ps μ-by-rounds by-rounds.Pre t, by-rounds.Post)
 
 module _ (t : ℕ) where
-  pub entry-at-requires : lts.Need-entry-at-requires (claims t) (of-two-at t) of-two.Post
+  entry-at-requires : lts.Need-entry-at-requires (claims t) (own t) of-two.Post
   entry-at-requires c κs = search needs
 
-  pub first-of-requires : lts.Need-first-of-requires (claims t) (of-two-at t) of-two.Post
+  first-of-requires : lts.Need-first-of-requires (claims t) (own t) of-two.Post
   first-of-requires c κs = search needs
 
-  pub first-of-requires-2 : lts.Need-first-of-requires-2 (claims t) (of-two-at t) of-two.Post
+  first-of-requires-2 : lts.Need-first-of-requires-2 (claims t) (own t) of-two.Post
   first-of-requires-2 c κs = search needs
 
   -- the two parts are found
-  module _ (found : lts.After-first-of2 (claims t) (of-two-at t) of-two.Post) where
-    abbrev start : lts.Start (claims t) (of-two-at t) of-two.Post
+  module _ (found : lts.After-first-of2 (claims t) (own t) of-two.Post) where
+    abbrev start : lts.Start (claims t) (own t) of-two.Post
     start = found .before .before .before .before .before
 
     abbrev tree : Tree
@@ -79,24 +88,24 @@ module _ (t : ℕ) where
         let (l, w) = operand-within (asked .entry) f in
         (omega (arith, start .pre .0), ((given, record { entry = w; nodes-only = asked .nodes-only }), stays-at (given .grounds .each) w is (start .args .course)))
 
-  pub stays-at-hand-requires : lts.Need-stays-at-hand-requires (claims t) (of-two-at t) of-two.Post
+  stays-at-hand-requires : lts.Need-stays-at-hand-requires (claims t) (own t) of-two.Post
   stays-at-hand-requires c κs = tt
 
-  pub way-of-requires : lts.Need-way-of-requires (claims t) (of-two-at t) of-two.Post
+  way-of-requires : lts.Need-way-of-requires (claims t) (own t) of-two.Post
   way-of-requires c κs =
       let s = c .before .before in
       (given s .grounds .each, operand-within (asked s .entry) (parts s .other) .1)
 
-  pub enum-known-way : lts.Need-enum-known-way (claims t) (of-two-at t) of-two.Post
+  enum-known-way : lts.Need-enum-known-way (claims t) (own t) of-two.Post
   enum-known-way c = search needs
 
-  pub filter-first-requires : lts.Need-filter-first-requires (claims t) (of-two-at t) of-two.Post
+  filter-first-requires : lts.Need-filter-first-requires (claims t) (own t) of-two.Post
   filter-first-requires c κs =
       let tested = c .before .before .before .before in
       let s = tested .before .before in
       filtered s (parts s .one) (tested .before .stays-at-hand .ensures (subst T (sym (tested .if1 .taken)) tt))
 
-  pub returns : lts.Need-returns (claims t) (of-two-at t) of-two.Post
+  returns : lts.Need-returns (claims t) (own t) of-two.Post
   unfolding reach
   returns c =
       let told = c .before .before in
@@ -107,27 +116,27 @@ module _ (t : ℕ) where
       let q = facing (start s .args .course) (pathAt (es s) (s .first-of2 .result)) in
       image-star (λ i j. Iff·trans (then-along q (reach (tree s) p) leads i j) (Iff·symm (parts s .same (tree s) i j))) (c .filter-first .ensures)
 
-  pub enum-told : lts.Need-enum-told (claims t) (of-two-at t) of-two.Post
+  enum-told : lts.Need-enum-told (claims t) (own t) of-two.Post
   enum-told c = search needs
 
-  pub stays-at-hand-requires-2 : lts.Need-stays-at-hand-requires-2 (claims t) (of-two-at t) of-two.Post
+  stays-at-hand-requires-2 : lts.Need-stays-at-hand-requires-2 (claims t) (own t) of-two.Post
   stays-at-hand-requires-2 c κs = tt
 
-  pub way-of-requires-2 : lts.Need-way-of-requires-2 (claims t) (of-two-at t) of-two.Post
+  way-of-requires-2 : lts.Need-way-of-requires-2 (claims t) (own t) of-two.Post
   way-of-requires-2 c κs =
       let s = c .before .before .before .before in
       (given s .grounds .each, operand-within (asked s .entry) (parts s .one) .1)
 
-  pub enum-known-way-2 : lts.Need-enum-known-way-2 (claims t) (of-two-at t) of-two.Post
+  enum-known-way-2 : lts.Need-enum-known-way-2 (claims t) (own t) of-two.Post
   enum-known-way-2 c = search needs
 
-  pub filter-last-requires : lts.Need-filter-last-requires (claims t) (of-two-at t) of-two.Post
+  filter-last-requires : lts.Need-filter-last-requires (claims t) (own t) of-two.Post
   filter-last-requires c κs =
       let tested = c .before .before .before .before in
       let s = tested .before .before .before .before in
       filtered s (parts s .other) (tested .before .stays-at-hand2 .ensures (subst T (sym (tested .if2 .taken)) tt))
 
-  pub returns-2 : lts.Need-returns-2 (claims t) (of-two-at t) of-two.Post
+  returns-2 : lts.Need-returns-2 (claims t) (own t) of-two.Post
   unfolding reach
   returns-2 c =
       let told = c .before .before in
@@ -138,11 +147,16 @@ module _ (t : ℕ) where
       let q = facing (start s .args .course) (pathAt (es s) (s .first-of2 .result)) in
       image-star (λ i j. Iff·trans (along-then p (reach (tree s) q) leads i j) (Iff·symm (parts s .same (tree s) i j))) (c .filter-last .ensures)
 
-  pub enum-told-2 : lts.Need-enum-told-2 (claims t) (of-two-at t) of-two.Post
+  enum-told-2 : lts.Need-enum-told-2 (claims t) (own t) of-two.Post
   enum-told-2 c = search needs
 
-  pub by-rounds-requires : lts.Need-by-rounds-requires (claims t) (of-two-at t) of-two.Post
+  by-rounds-requires : lts.Need-by-rounds-requires (claims t) (own t) of-two.Post
   by-rounds-requires c κs = let s = c .before .before in (omega (arith, start s .pre .0), (given s, asked s))
 
-  pub returns-3 : lts.Need-returns-3 (claims t) (of-two-at t) of-two.Post
+  returns-3 : lts.Need-returns-3 (claims t) (own t) of-two.Post
   returns-3 c = c .by-rounds .ensures
+
+  pub meets : {M : Type 1} → lts.Closed (claims t) (own t) of-two.Post M
+  meets = lts.spec (claims t) (own t) of-two.Post entry-at-requires first-of-requires first-of-requires-2 stays-at-hand-requires
+      way-of-requires enum-known-way filter-first-requires returns enum-told stays-at-hand-requires-2 way-of-requires-2 enum-known-way-2
+      filter-last-requires returns-2 enum-told-2 by-rounds-requires returns-3

@@ -3,8 +3,10 @@ use Prim.Native.Nat.{ℕ, _+_, _*_, _<_}
 use native.Mathlib.Omega.{arith}
 use mathlib.Core.Path.{_≡_, refl, sym, _∙_}
 use borrow.Author.Needs.{needs}
+use borrow.Fn.Kinds.{In}
 use denote.Ref.{now}
 use Rattle.tree.specs.Tree.{Tree}
+use Rattle.tree.proofs.Calls as calls
 use Rattle.roll.specs.Roll.{nodes}
 use Rattle.roll.proofs.Deciding.{roll-in-order, roll-most}
 use Rattle.query.specs.Kind.{path}
@@ -14,7 +16,7 @@ use Rattle.evaluator.proofs.Images.{image-star}
 use Rattle.evaluator.proofs.Walks.{walk-star-star}
 use Rattle.evaluator.proofs.Operands.{Read, operand, is-star}
 use Rattle.evaluator.proofs.Stepping.{star-of-steps}
-use Rattle.evaluator.proofs.+by_rounds+filter_first+filter_last+image+narrow+of_two+star.Proof.Measures.{star-at, of-two-below, star-below, by-rounds-below}
+use Rattle.evaluator.proofs.+by_rounds+filter_first+filter_last+image+narrow+of_two+star.Proof.Measures.{μ-by-rounds, μ-of-two, μ-star}
 use Rattle.evaluator.proofs.+by_rounds+filter_first+filter_last+image+narrow+of_two+star.Lts-star as lts
 use Rattle.evaluator.proofs.of_two.Reads as of-two
 use Rattle.evaluator.proofs.star.Reads as star
@@ -23,18 +25,24 @@ use Rattle.tables.proofs.entry.entry_at.Reads as entry-at
 use Rattle.evaluator.proofs.ways.way_of.Reads as way-of
 use Rattle.sets.proofs.below.Reads as below
 use Rattle.steps.proofs.closure.Reads as closure
+use Rattle.evaluator.proofs.by_rounds.Kinds as by-rounds-kinds
+use Rattle.evaluator.proofs.of_two.Kinds as of-two-kinds
+use Rattle.evaluator.proofs.star.Kinds as star-kinds
 
--- what its callees ask and say
-abbrev pub claims : ℕ → lts.Claims
-claims t = (entry-at.Asked, entry-at.Learnt, of-two-below t, of-two.Post, star-below t, star.Post, way-of.Asked, way-of.Learnt, below.Asked, below.Learnt, closure.Asked, closure.Learnt, by-rounds-below t, by-rounds.Post)
+-- what it is given, and what its callees ask and say
+abbrev own : ℕ → In 5 star-kinds.ps
+own = calls.given star-kinds.ps μ-star star.Pre
+
+abbrev claims : ℕ → lts.Claims
+claims t = (entry-at.Asked, entry-at.Learnt, calls.asked of-two-kinds.ps μ-of-two of-two.Pre t, of-two.Post, calls.asked star-kinds.ps μ-star star.Pre t, star.Post, way-of.Asked, way-of.Learnt, below.Asked, below.Learnt, closure.Asked, closure.Learnt, calls.asked by-rounds-kinds.ps μ-by-rounds by-rounds.Pre t, by-rounds.Post)
 
 module _ (t : ℕ) where
-  pub entry-at-requires : lts.Need-entry-at-requires (claims t) (star-at t) star.Post
+  entry-at-requires : lts.Need-entry-at-requires (claims t) (own t) star.Post
   entry-at-requires c κs = search needs
 
   -- the entry is read: what the function was given, and what it has read
-  module _ (c : lts.After-entry-at (claims t) (star-at t) star.Post) where
-    abbrev start : lts.Start (claims t) (star-at t) star.Post
+  module _ (c : lts.After-entry-at (claims t) (own t) star.Post) where
+    abbrev start : lts.Start (claims t) (own t) star.Post
     start = c .before .before .before
 
     abbrev tree : Tree
@@ -50,40 +58,40 @@ module _ (t : ℕ) where
     read = record { order = given .grounds .each; entry = asked .entry; fields = c .entry-at .ensures }
 
   -- one path and then another
-  pub of-two-requires : lts.Need-of-two-requires (claims t) (star-at t) star.Post
+  of-two-requires : lts.Need-of-two-requires (claims t) (own t) star.Post
   of-two-requires c κs =
       let k = c .before in
       (omega (arith, start k .pre .0), ((given k, asked k), sym (k .entry-at .ensures .kind) ∙ c .match .keys1))
 
-  pub returns : lts.Need-returns (claims t) (star-at t) star.Post
+  returns : lts.Need-returns (claims t) (own t) star.Post
   returns c = c .of-two .ensures
 
   -- of a star, what that star reaches
-  pub star-requires : lts.Need-star-requires (claims t) (star-at t) star.Post
+  star-requires : lts.Need-star-requires (claims t) (own t) star.Post
   star-requires c κs =
       let k = c .before in
       let (l, more) = operand (given k) (read k .entry) refl (is-star (read k) (c .match .keys2) .0) (asked k .nodes-only) in
       (omega (arith, start k .pre .0), more)
 
-  pub returns-2 : lts.Need-returns-2 (claims t) (star-at t) star.Post
+  returns-2 : lts.Need-returns-2 (claims t) (own t) star.Post
   returns-2 c =
       let k = c .before .before in
       rw (is-star (read k) (c .before .match .keys2) .1) (walk-star-star (tree k) (start k .args .course) _ (c .star .ensures))
 
   -- along axes, from each node once
-  pub way-of-requires : lts.Need-way-of-requires (claims t) (star-at t) star.Post
+  way-of-requires : lts.Need-way-of-requires (claims t) (own t) star.Post
   way-of-requires c κs = let k = c .before in (given k .grounds .each, asked k .entry)
 
-  pub enum-known-way : lts.Need-enum-known-way (claims t) (star-at t) star.Post
+  enum-known-way : lts.Need-enum-known-way (claims t) (own t) star.Post
   enum-known-way c = search needs
 
-  pub below-requires : lts.Need-below-requires (claims t) (star-at t) star.Post
+  below-requires : lts.Need-below-requires (claims t) (own t) star.Post
   below-requires c κs = search needs
 
-  pub closure-requires : lts.Need-closure-requires (claims t) (star-at t) star.Post
+  closure-requires : lts.Need-closure-requires (claims t) (own t) star.Post
   closure-requires c κs = let g = given (c .before .before .before .before .before .before) in (g .grounds .roll-right, g .grounds .links)
 
-  pub returns-3 : lts.Need-returns-3 (claims t) (star-at t) star.Post
+  returns-3 : lts.Need-returns-3 (claims t) (own t) star.Post
   unfolding reach
   returns-3 c =
       let every = c .before in
@@ -95,11 +103,15 @@ module _ (t : ℕ) where
       image-star (leads (tree k)) (star-of-steps (roll-in-order g) (roll-most g) (every .below .ensures) (c .closure .ensures))
 
   -- and rounds for any other path
-  pub enum-told : lts.Need-enum-told (claims t) (star-at t) star.Post
+  enum-told : lts.Need-enum-told (claims t) (own t) star.Post
   enum-told c = search needs
 
-  pub by-rounds-requires : lts.Need-by-rounds-requires (claims t) (star-at t) star.Post
+  by-rounds-requires : lts.Need-by-rounds-requires (claims t) (own t) star.Post
   by-rounds-requires c κs = let k = c .before .before .before .before in (omega (arith, start k .pre .0), (given k, asked k))
 
-  pub returns-4 : lts.Need-returns-4 (claims t) (star-at t) star.Post
+  returns-4 : lts.Need-returns-4 (claims t) (own t) star.Post
   returns-4 c = c .by-rounds .ensures
+
+  pub meets : {M : Type 1} → lts.Closed (claims t) (own t) star.Post M
+  meets = lts.spec (claims t) (own t) star.Post entry-at-requires of-two-requires star-requires way-of-requires enum-known-way
+      below-requires closure-requires enum-told by-rounds-requires returns returns-2 returns-3 returns-4

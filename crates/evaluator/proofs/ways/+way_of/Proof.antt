@@ -4,8 +4,9 @@ use mathlib.Core.Path.{_≡_, subst}
 use mathlib.Core.Logic.{Iff·trans}
 use borrow.Author.Needs.{needs}
 use borrow.Fn.Kinds.{In}
-use borrow.Fn.PlainCycle.{Measures, is, falls, and}
+use borrow.Fn.PlainCycle.{Measures}
 use denote.Ref.{now}
+use Rattle.tree.proofs.Calls.{given, asked}
 use Rattle.query.specs.Syntax.{Path}
 use Rattle.query.specs.Kind.{path}
 use Rattle.evaluator.specs.Ways.{Leads}
@@ -27,10 +28,10 @@ abbrev μ : Measures 1 kinds.ps ℕ
 
 -- what it is given at the measure t, and what its callees ask and say: its own calls ask the same below t
 abbrev own : ℕ → In 1 kinds.ps
-own t = and 1 kinds.ps (is 1 kinds.ps μ t) way-of.Pre
+own = given kinds.ps μ way-of.Pre
 
 abbrev claims : ℕ → lts.Claims
-claims t = (entry-at.Asked, entry-at.Learnt, and 1 kinds.ps (falls 1 kinds.ps _<_ μ t) way-of.Pre, way-of.Post, either.Asked, either.Learnt, axis-of.Asked, axis-of.Learnt, way.Asked, way.Learnt, only.Asked, only.Learnt)
+claims t = (entry-at.Asked, entry-at.Learnt, asked kinds.ps μ way-of.Pre t, way-of.Post, either.Asked, either.Learnt, axis-of.Asked, axis-of.Learnt, way.Asked, way.Learnt, only.Asked, only.Learnt)
 
 module _ (t : ℕ) where
   entry-at-requires : lts.Need-entry-at-requires (claims t) (own t) way-of.Post
@@ -105,21 +106,9 @@ module _ (t : ℕ) where
   returns-5 : lts.Need-returns-5 (claims t) (own t) way-of.Post
   returns-5 c = tt
 
+  meets : {M : Type 1} → lts.Closed (claims t) (own t) way-of.Post M
+  meets = lts.spec (claims t) (own t) way-of.Post entry-at-requires returns sub-way-of way-of-requires sub-way-of-2 way-of-requires-2
+      either-requires axis-of-requires way-requires only-requires returns-2 returns-3 returns-4 returns-5
+
 pub +way-of-spec : {M : Type 1} → statement M
-+way-of-spec =
-    close μ
-    (λ t. lts.spec (claims t) (own t) way-of.Post
-    (entry-at-requires t)
-    (returns t)
-    (sub-way-of t)
-    (way-of-requires t)
-    (sub-way-of-2 t)
-    (way-of-requires-2 t)
-    (either-requires t)
-    (axis-of-requires t)
-    (way-requires t)
-    (only-requires t)
-    (returns-2 t)
-    (returns-3 t)
-    (returns-4 t)
-    (returns-5 t))
++way-of-spec = close μ λ t. meets t

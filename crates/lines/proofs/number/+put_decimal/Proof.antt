@@ -6,7 +6,8 @@ use mathlib.Core.Path.{_≡_, _∙_}
 use lib.ListN.{length}
 use borrow.Author.Needs.{needs}
 use borrow.Fn.Kinds.{In}
-use borrow.Fn.PlainCycle.{Measures, is, falls, and}
+use borrow.Fn.PlainCycle.{Measures}
+use Rattle.tree.proofs.Calls.{given, asked}
 use Rattle.lines.specs.Line.{decimal}
 use Rattle.lines.proofs.Putting.{put-length, put-then}
 use Rattle.lines.proofs.Numbers.{decimal-small, decimal-large, one-digit, one-digit-more}
@@ -22,10 +23,10 @@ abbrev μ : Measures 1 kinds.ps ℕ
 
 -- what it is given at the measure t, and what its callees ask and say: its own call asks the same below t
 abbrev own : ℕ → In 1 kinds.ps
-own t = and 1 kinds.ps (is 1 kinds.ps μ t) reads.Pre
+own = given kinds.ps μ reads.Pre
 
 abbrev claims : ℕ → lts.Claims
-claims t = (put-byte.Asked, put-byte.Learnt, and 1 kinds.ps (falls 1 kinds.ps _<_ μ t) reads.Pre, reads.Post)
+claims t = (put-byte.Asked, put-byte.Learnt, asked kinds.ps μ reads.Pre t, reads.Post)
 
 module _ (t : ℕ) where
   cast-put-byte : lts.Need-cast-put-byte (claims t) (own t) reads.Post
@@ -85,16 +86,9 @@ module _ (t : ℕ) where
       (put-then (omega (arith, first .put-decimal .ensures .end, start .pre .1, one-digit-more n large))
       (first .put-decimal .ensures) (last .put-byte2 .ensures))
 
+  meets : {M : Type 1} → lts.Closed (claims t) (own t) reads.Post M
+  meets = lts.spec (claims t) (own t) reads.Post cast-put-byte add-put-byte put-byte-requires same-length returns put-decimal-requires
+      cast-put-byte-2 add-put-byte-2 put-byte-requires-2 same-length-2 returns-2
+
 pub +put-decimal-spec : {M : Type 1} → statement M
-+put-decimal-spec = close μ λ t. lts.spec (claims t) (own t) reads.Post
-    (cast-put-byte t)
-    (add-put-byte t)
-    (put-byte-requires t)
-    (same-length t)
-    (returns t)
-    (put-decimal-requires t)
-    (cast-put-byte-2 t)
-    (add-put-byte-2 t)
-    (put-byte-requires-2 t)
-    (same-length-2 t)
-    (returns-2 t)
++put-decimal-spec = close μ λ t. meets t

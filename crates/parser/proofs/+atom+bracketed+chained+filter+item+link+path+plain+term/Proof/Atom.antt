@@ -7,11 +7,12 @@ use lib.ListN.{getD}
 use borrow.Author.Needs.{needs}
 use borrow.Fn.Kinds.{In}
 use native.Mathlib.Omega.{arith}
+use Rattle.tree.proofs.Calls.{given, asked}
 use Rattle.tokens.specs.Reading.{AxisOf}
 use Rattle.tokens.proofs.Places.{inside}
 use Rattle.tokens.proofs.Following.{room-after}
 use Rattle.tokens.proofs.Atoms.{square-follows, round-follows, axis-seen, axis-follows, no-atom}
-use Rattle.parser.proofs.+atom+bracketed+chained+filter+item+link+path+plain+term.Proof.Measures.{given, asked, μ-atom, μ-bracketed}
+use Rattle.parser.proofs.+atom+bracketed+chained+filter+item+link+path+plain+term.Proof.Measures.{μ-atom, μ-bracketed}
 use Rattle.parser.proofs.+atom+bracketed+chained+filter+item+link+path+plain+term.Lts-atom as lts
 use Rattle.parser.proofs.atom.Reads as atom
 use Rattle.tokens.proofs.label.byte_at.Reads as byte-at-reads
@@ -23,10 +24,10 @@ use Rattle.parser.proofs.atom.Kinds as atom-kinds
 use Rattle.parser.proofs.bracketed.Kinds as bracketed-kinds
 
 -- what it is given, and what its callees ask and say
-abbrev pub own : ℕ → In 2 atom-kinds.ps
+abbrev own : ℕ → In 2 atom-kinds.ps
 own = given atom-kinds.ps μ-atom atom.Pre
 
-abbrev pub claims : ℕ → lts.Claims
+abbrev claims : ℕ → lts.Claims
 claims t = (
   byte-at-reads.Asked,
   byte-at-reads.Learnt,
@@ -74,64 +75,68 @@ module _ (t : ℕ) where
   at-axis : (c : Axis) → AxisOf (byte (seen c)) (c .axis .result)
   at-axis c = subst (λ (b : ℕ). AxisOf b (c .axis .result)) (seen c .byte-at .ensures) (c .axis .ensures)
 
-  pub byte-at-requires : lts.Need-byte-at-requires (claims t) (own t) atom.Post
+  byte-at-requires : lts.Need-byte-at-requires (claims t) (own t) atom.Post
   byte-at-requires c κs = search needs
 
-  pub bracketed-requires : lts.Need-bracketed-requires (claims t) (own t) atom.Post
+  bracketed-requires : lts.Need-bracketed-requires (claims t) (own t) atom.Post
   bracketed-requires c κs =
       let s = c .before .before in
       (omega arith, (beginning s .pre .1, at-byte s (c .before .if1 .taken)))
 
-  pub behind-requires : lts.Need-behind-requires (claims t) (own t) atom.Post
+  behind-requires : lts.Need-behind-requires (claims t) (own t) atom.Post
   behind-requires c κs =
       let read : Square = c .before .before .before in
       let s : Seen = read .before .before .before in
       room-after (read .bracketed .ensures) (beginning s .pre .1) (le-refl _) (omega arith) (read .bracketed .kept .1 .1 .1 .0)
 
-  pub same-length : lts.Need-same-length (claims t) (own t) atom.Post
+  same-length : lts.Need-same-length (claims t) (own t) atom.Post
   same-length c = search needs
 
-  pub returns : lts.Need-returns (claims t) (own t) atom.Post
+  returns : lts.Need-returns (claims t) (own t) atom.Post
   returns c =
       let wrote = c .before .before in
       let read : Square = wrote .before .before .before .before in
       square-follows (read .bracketed .ensures) (wrote .behind .ensures)
 
-  pub bracketed-requires-2 : lts.Need-bracketed-requires-2 (claims t) (own t) atom.Post
+  bracketed-requires-2 : lts.Need-bracketed-requires-2 (claims t) (own t) atom.Post
   bracketed-requires-2 c κs =
       let s = c .before .before .before in
       (omega arith, (beginning s .pre .1, at-byte s (c .before .if2 .taken)))
 
-  pub same-length-2 : lts.Need-same-length-2 (claims t) (own t) atom.Post
+  same-length-2 : lts.Need-same-length-2 (claims t) (own t) atom.Post
   same-length-2 c = search needs
 
-  pub returns-2 : lts.Need-returns-2 (claims t) (own t) atom.Post
+  returns-2 : lts.Need-returns-2 (claims t) (own t) atom.Post
   returns-2 c = let read : Round = c .before .before in round-follows (read .bracketed2 .ensures)
 
-  pub axis-requires : lts.Need-axis-requires (claims t) (own t) atom.Post
+  axis-requires : lts.Need-axis-requires (claims t) (own t) atom.Post
   axis-requires c κs = search needs
 
-  pub returns-3 : lts.Need-returns-3 (claims t) (own t) atom.Post
+  returns-3 : lts.Need-returns-3 (claims t) (own t) atom.Post
   returns-3 c =
       let a : Axis = c .before in
       let s = seen a in
       no-atom (beginning s .pre .1 .within) (not-byte s (a .before .before .if1 .left)) (not-byte s (a .before .if2 .left)) (at-axis a)
       (c .if3 .taken)
 
-  pub add-leaf : lts.Need-add-leaf (claims t) (own t) atom.Post
+  add-leaf : lts.Need-add-leaf (claims t) (own t) atom.Post
   add-leaf c = search needs
 
-  pub leaf-requires : lts.Need-leaf-requires (claims t) (own t) atom.Post
+  leaf-requires : lts.Need-leaf-requires (claims t) (own t) atom.Post
   leaf-requires c κs =
       let a : Axis = c .before .before in
       let s = beginning (seen a) in
       omega (arith, inside (s .args .text .now) (s .args .at) (axis-seen (at-axis a) (c .before .if3 .left)), s .pre .1 .room)
 
-  pub same-length-3 : lts.Need-same-length-3 (claims t) (own t) atom.Post
+  same-length-3 : lts.Need-same-length-3 (claims t) (own t) atom.Post
   same-length-3 c = search needs
 
-  pub returns-4 : lts.Need-returns-4 (claims t) (own t) atom.Post
+  returns-4 : lts.Need-returns-4 (claims t) (own t) atom.Post
   returns-4 c =
       let wrote = c .before .before in
       let chosen = wrote .before .before in
       axis-follows (at-axis (chosen .before)) (chosen .if3 .left) (wrote .leaf .ensures)
+
+  pub meets : {M : Type 1} → lts.Closed (claims t) (own t) atom.Post M
+  meets = lts.spec (claims t) (own t) atom.Post byte-at-requires bracketed-requires behind-requires same-length returns bracketed-requires-2
+      same-length-2 returns-2 axis-requires returns-3 add-leaf leaf-requires same-length-3 returns-4

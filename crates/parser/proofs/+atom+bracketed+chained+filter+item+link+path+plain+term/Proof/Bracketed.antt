@@ -5,6 +5,7 @@ use mathlib.Core.Path.{_≡_, sym, ap, _∙_, subst₂}
 use mathlib.Core.Logic.{⊎-elim}
 use lib.ListN.{length}
 use Rattle.reply.specs.Bytes.{Bytes}
+use Rattle.tree.proofs.Calls.{given, asked}
 use Rattle.reading.proofs.Parts.{inside}
 use Rattle.tokens.specs.declared.answer.Parsed.{Parsed}
 use Rattle.tokens.specs.Reading.{Follows, chains}
@@ -13,7 +14,7 @@ use borrow.Fn.Kinds.{In}
 use native.Mathlib.Omega.{arith}
 use Rattle.tokens.proofs.Following.{place-in-text, ready-on}
 use Rattle.tokens.proofs.Enclosed.{bracket-inside, bracket-too-deep, bracket-follows, path-inside, filter-inside}
-use Rattle.parser.proofs.+atom+bracketed+chained+filter+item+link+path+plain+term.Proof.Measures.{given, asked, μ-bracketed}
+use Rattle.parser.proofs.+atom+bracketed+chained+filter+item+link+path+plain+term.Proof.Measures.{μ-bracketed}
 use Rattle.parser.proofs.+atom+bracketed+chained+filter+item+link+path+plain+term.Proof.Measures.{μ-filter, μ-path}
 use Rattle.parser.proofs.+atom+bracketed+chained+filter+item+link+path+plain+term.Lts-bracketed as lts
 use Rattle.parser.proofs.bracketed.Reads as bracketed
@@ -26,10 +27,10 @@ use Rattle.parser.proofs.filter.Kinds as filter-kinds
 use Rattle.parser.proofs.path.Kinds as path-kinds
 
 -- what it is given, and what its callees ask and say
-abbrev pub own : ℕ → In 2 bracketed-kinds.ps
+abbrev own : ℕ → In 2 bracketed-kinds.ps
 own = given bracketed-kinds.ps μ-bracketed bracketed.Pre
 
-abbrev pub claims : ℕ → lts.Claims
+abbrev claims : ℕ → lts.Claims
 claims t = (
   asked path-kinds.ps μ-path path.Pre t,
   path.Post,
@@ -75,50 +76,54 @@ module _ (t : ℕ) where
       (subst₂ (Inside c) (sym (w .6)) (sym (w .5)) read, ap length (w .5) ∙ w .2 .kept .1 .1 .1 .0))
       (c .match .came)
 
-  pub returns : lts.Need-returns (claims t) (own t) bracketed.Post
+  returns : lts.Need-returns (claims t) (own t) bracketed.Post
   returns c =
       let s = c .before .before .before in
       bracket-too-deep (s .args .bracket) _ _ (s .pre .1 .1) (c .if1 .taken)
 
-  pub enum-told : lts.Need-enum-told (claims t) (own t) bracketed.Post
+  enum-told : lts.Need-enum-told (claims t) (own t) bracketed.Post
   enum-told c = search needs
 
-  pub add-path : lts.Need-add-path (claims t) (own t) bracketed.Post
+  add-path : lts.Need-add-path (claims t) (own t) bracketed.Post
   add-path c = search needs
 
-  pub add-path-2 : lts.Need-add-path-2 (claims t) (own t) bracketed.Post
+  add-path-2 : lts.Need-add-path-2 (claims t) (own t) bracketed.Post
   add-path-2 c = search needs
 
-  pub path-requires : lts.Need-path-requires (claims t) (own t) bracketed.Post
+  path-requires : lts.Need-path-requires (claims t) (own t) bracketed.Post
   path-requires c κs =
       let s : Start = c .before .before .before .before .before .before in
       let l = at-open s in
       (omega arith, ready-on (s .pre .1 .0) l)
 
-  pub add-filter : lts.Need-add-filter (claims t) (own t) bracketed.Post
+  add-filter : lts.Need-add-filter (claims t) (own t) bracketed.Post
   add-filter c = search needs
 
-  pub add-filter-2 : lts.Need-add-filter-2 (claims t) (own t) bracketed.Post
+  add-filter-2 : lts.Need-add-filter-2 (claims t) (own t) bracketed.Post
   add-filter-2 c = search needs
 
-  pub filter-requires : lts.Need-filter-requires (claims t) (own t) bracketed.Post
+  filter-requires : lts.Need-filter-requires (claims t) (own t) bracketed.Post
   filter-requires c κs =
       let s : Start = c .before .before .before .before .before in
       let l = at-open s in
       (omega arith, ready-on (s .pre .1 .0) l)
 
-  pub closing-requires : lts.Need-closing-requires (claims t) (own t) bracketed.Post
+  closing-requires : lts.Need-closing-requires (claims t) (own t) bracketed.Post
   closing-requires c κs = search needs
 
-  pub closed-requires : lts.Need-closed-requires (claims t) (own t) bracketed.Post
+  closed-requires : lts.Need-closed-requires (claims t) (own t) bracketed.Post
   closed-requires c κs = place-in-text (held (c .before) .0)
 
-  pub same-length : lts.Need-same-length (claims t) (own t) bracketed.Post
+  same-length : lts.Need-same-length (claims t) (own t) bracketed.Post
   same-length c = held (c .before .before) .1
 
-  pub returns-2 : lts.Need-returns-2 (claims t) (own t) bracketed.Post
+  returns-2 : lts.Need-returns-2 (claims t) (own t) bracketed.Post
   returns-2 c =
       let read : Held = c .before .before in
       let s = beginning read in
       bracket-follows (s .args .bracket) _ _ (s .pre .1 .1) (read .before .if1 .left) (held read .0) (c .before .closing .ensures)
       (c .closed .ensures)
+
+  pub meets : {M : Type 1} → lts.Closed (claims t) (own t) bracketed.Post M
+  meets = lts.spec (claims t) (own t) bracketed.Post returns enum-told add-path add-path-2 path-requires add-filter add-filter-2
+      filter-requires closing-requires closed-requires same-length returns-2

@@ -7,6 +7,7 @@ use borrow.Author.Needs.{needs}
 use borrow.Fn.Kinds.{In}
 use native.Mathlib.Omega.{arith}
 use Rattle.reply.specs.Bytes.{Bytes}
+use Rattle.tree.proofs.Calls.{given, asked}
 use Rattle.reading.specs.declared.Chain.{Chain}
 use Rattle.reading.proofs.Parts.{joining}
 use Rattle.tokens.specs.declared.answer.Parsed.the-variants.{Got}
@@ -15,7 +16,7 @@ use Rattle.tokens.proofs.Places.{inside}
 use Rattle.tokens.proofs.Following.{got-stands}
 use Rattle.tokens.proofs.Chains.{joint-seen, Chained, ended}
 use Rattle.tokens.proofs.Begun.{first, further, linked, not-linked, begun-on, begun-ready, room-to-join, as-link, Standing}
-use Rattle.parser.proofs.+atom+bracketed+chained+filter+item+link+path+plain+term.Proof.Measures.{given, asked, μ-chained, μ-link}
+use Rattle.parser.proofs.+atom+bracketed+chained+filter+item+link+path+plain+term.Proof.Measures.{μ-chained, μ-link}
 use Rattle.parser.proofs.+atom+bracketed+chained+filter+item+link+path+plain+term.Lts-chained as lts
 use Rattle.parser.proofs.chained.Reads as chained
 use Rattle.parser.proofs.link.Reads as link
@@ -29,10 +30,10 @@ use Rattle.parser.proofs.chained.Kinds as chained-kinds
 use Rattle.parser.proofs.link.Kinds as link-kinds
 
 -- what it is given, and what its callees ask and say
-abbrev pub own : ℕ → In 2 chained-kinds.ps
+abbrev own : ℕ → In 2 chained-kinds.ps
 own = given chained-kinds.ps μ-chained chained.Pre
 
-abbrev pub claims : ℕ → lts.Claims
+abbrev claims : ℕ → lts.Claims
 claims t = (
   asked link-kinds.ps μ-link link.Pre t,
   link.Post,
@@ -50,11 +51,11 @@ claims t = (
   outer-reads.Learnt,
 )
 
-abbrev pub Inv-loop : lts.InvT-loop
+abbrev Inv-loop : lts.InvT-loop
 Inv-loop text at depth table₀ count of next₀ begun₀ left₀ table next begun left =
     (length table ≡ length table₀) × Standing of depth text at table₀ count next begun left table
 
-abbrev pub μ-loop : lts.MeasureT-loop
+abbrev μ-loop : lts.MeasureT-loop
 μ-loop text at depth table₀ count of next₀ begun₀ left₀ table next begun left = length text - next
 
 module _ (t : ℕ) where
@@ -233,10 +234,10 @@ module _ (t : ℕ) where
       byte i ≡ joining (outer (origin i))
   outer-byte c = sym (byte-read (ended-inner (c .before) .before)) ∙ c .if2 .left ∙ outer-joint (c .before)
 
-  pub loop-holds : lts.Need-loop-holds (claims t) (own t) chained.Post Inv-loop μ-loop
+  loop-holds : lts.Need-loop-holds (claims t) (own t) chained.Post Inv-loop μ-loop
   loop-holds c = (refl, record { from = _; mid = _; kept = refl; outside = first; inside = first })
 
-  pub link-requires : lts.Need-link-requires (claims t) (own t) chained.Post Inv-loop μ-loop
+  link-requires : lts.Need-link-requires (claims t) (own t) chained.Post Inv-loop μ-loop
   link-requires c κs =
       let h = c .before in
       let m = beginning h .pre .0 in
@@ -245,18 +246,18 @@ module _ (t : ℕ) where
       let b = begun-on (inner h) (standing h .inside) in
       (omega arith, ready h)
 
-  pub enum-known-more : lts.Need-enum-known-more (claims t) (own t) chained.Post Inv-loop μ-loop
+  enum-known-more : lts.Need-enum-known-more (claims t) (own t) chained.Post Inv-loop μ-loop
   enum-known-more c = search needs
 
-  pub passed-requires : lts.Need-passed-requires (claims t) (own t) chained.Post Inv-loop μ-loop
+  passed-requires : lts.Need-passed-requires (claims t) (own t) chained.Post Inv-loop μ-loop
   passed-requires c κs = search needs
 
-  pub same-length : lts.Need-same-length (claims t) (own t) chained.Post Inv-loop μ-loop
+  same-length : lts.Need-same-length (claims t) (own t) chained.Post Inv-loop μ-loop
   same-length c =
       let l = c .before .before .before .before in
       l .link .kept .1 .1 .1 .0 ∙ l .before .before .loop .inv .0
 
-  pub returns : lts.Need-returns (claims t) (own t) chained.Post Inv-loop μ-loop
+  returns : lts.Need-returns (claims t) (own t) chained.Post Inv-loop μ-loop
   returns c =
       let l = c .before .before .before .before in
       let h = l .before .before in
@@ -264,41 +265,41 @@ module _ (t : ℕ) where
       let not-inner = not-linked (inner h) (standing h .inside) failed (l .link .ensures) in
       rw (c .passed .ensures) (not-linked (outer h) (standing h .outside) failed (as-link (beginning h .args .of) not-inner))
 
-  pub inner-requires : lts.Need-inner-requires (claims t) (own t) chained.Post Inv-loop μ-loop
+  inner-requires : lts.Need-inner-requires (claims t) (own t) chained.Post Inv-loop μ-loop
   inner-requires c κs = search needs
 
-  pub joined-requires : lts.Need-joined-requires (claims t) (own t) chained.Post Inv-loop μ-loop
+  joined-requires : lts.Need-joined-requires (claims t) (own t) chained.Post Inv-loop μ-loop
   joined-requires c κs =
       let m = c .before .before .before in
       let e = kept-link m in
       (one-more m .2, λ l. let r = one-more m .3 l in omega arith)
 
-  pub byte-at-requires : lts.Need-byte-at-requires (claims t) (own t) chained.Post Inv-loop μ-loop
+  byte-at-requires : lts.Need-byte-at-requires (claims t) (own t) chained.Post Inv-loop μ-loop
   byte-at-requires c κs = search needs
 
-  pub inner-requires-2 : lts.Need-inner-requires-2 (claims t) (own t) chained.Post Inv-loop μ-loop
+  inner-requires-2 : lts.Need-inner-requires-2 (claims t) (own t) chained.Post Inv-loop μ-loop
   inner-requires-2 c κs = search needs
 
-  pub joint-requires : lts.Need-joint-requires (claims t) (own t) chained.Post Inv-loop μ-loop
+  joint-requires : lts.Need-joint-requires (claims t) (own t) chained.Post Inv-loop μ-loop
   joint-requires c κs = search needs
 
-  pub add-next : lts.Need-add-next (claims t) (own t) chained.Post Inv-loop μ-loop
+  add-next : lts.Need-add-next (claims t) (own t) chained.Post Inv-loop μ-loop
   add-next c = omega (arith, in-text (c .before) (inner (origin (c .before))) (inner-byte c), beginning (origin (c .before)) .good .0)
 
-  pub loop-less : lts.Need-loop-less (claims t) (own t) chained.Post Inv-loop μ-loop
+  loop-less : lts.Need-loop-less (claims t) (own t) chained.Post Inv-loop μ-loop
   loop-less c = omega (arith, in-text (c .before) (inner (origin (c .before))) (inner-byte c), one-more (more (c .before)) .0)
 
-  pub loop-again : lts.Need-loop-again (claims t) (own t) chained.Post Inv-loop μ-loop
+  loop-again : lts.Need-loop-again (claims t) (own t) chained.Post Inv-loop μ-loop
   loop-again c =
       let i = c .before in
       let s = standing (origin i) in
       let goes = further (reading-inner i) (inner-byte c) in
       (kept-inner i, record { from = s .from; mid = s .mid; kept = s .kept; outside = s .outside; inside = goes })
 
-  pub outer-requires : lts.Need-outer-requires (claims t) (own t) chained.Post Inv-loop μ-loop
+  outer-requires : lts.Need-outer-requires (claims t) (own t) chained.Post Inv-loop μ-loop
   outer-requires c κs = search needs
 
-  pub joined-requires-2 : lts.Need-joined-requires-2 (claims t) (own t) chained.Post Inv-loop μ-loop
+  joined-requires-2 : lts.Need-joined-requires-2 (claims t) (own t) chained.Post Inv-loop μ-loop
   joined-requires-2 c κs =
       let e = c .before .before in
       let h = origin (e .before) in
@@ -306,32 +307,37 @@ module _ (t : ℕ) where
       let st = got-stands refl (link-outer e) .2 in
       (st .some, λ l. let r = room-to-join (outer h) (beginning h .pre .1) (standing h .outside) st l in omega arith)
 
-  pub outer-requires-2 : lts.Need-outer-requires-2 (claims t) (own t) chained.Post Inv-loop μ-loop
+  outer-requires-2 : lts.Need-outer-requires-2 (claims t) (own t) chained.Post Inv-loop μ-loop
   outer-requires-2 c κs = search needs
 
-  pub joint-requires-2 : lts.Need-joint-requires-2 (claims t) (own t) chained.Post Inv-loop μ-loop
+  joint-requires-2 : lts.Need-joint-requires-2 (claims t) (own t) chained.Post Inv-loop μ-loop
   joint-requires-2 c κs = search needs
 
-  pub same-length-2 : lts.Need-same-length-2 (claims t) (own t) chained.Post Inv-loop μ-loop
+  same-length-2 : lts.Need-same-length-2 (claims t) (own t) chained.Post Inv-loop μ-loop
   same-length-2 c = kept-outer (c .before)
 
-  pub returns-2 : lts.Need-returns-2 (claims t) (own t) chained.Post Inv-loop μ-loop
+  returns-2 : lts.Need-returns-2 (claims t) (own t) chained.Post Inv-loop μ-loop
   returns-2 c =
       let o = c .before in
       let i = ended-inner o .before in
       ended (outer (origin i)) (reading-outer o) (λ e. c .if2 .taken (byte-read i ∙ e ∙ sym (outer-joint o)))
 
-  pub add-next-2 : lts.Need-add-next-2 (claims t) (own t) chained.Post Inv-loop μ-loop
+  add-next-2 : lts.Need-add-next-2 (claims t) (own t) chained.Post Inv-loop μ-loop
   add-next-2 c =
       let i = ended-inner (c .before) .before in
       omega (arith, in-text i (outer (origin i)) (outer-byte c), beginning (origin i) .good .0)
 
-  pub loop-less-2 : lts.Need-loop-less-2 (claims t) (own t) chained.Post Inv-loop μ-loop
+  loop-less-2 : lts.Need-loop-less-2 (claims t) (own t) chained.Post Inv-loop μ-loop
   loop-less-2 c =
       let i = ended-inner (c .before) .before in
       omega (arith, in-text i (outer (origin i)) (outer-byte c), one-more (more i) .0)
 
-  pub loop-again-2 : lts.Need-loop-again-2 (claims t) (own t) chained.Post Inv-loop μ-loop
+  loop-again-2 : lts.Need-loop-again-2 (claims t) (own t) chained.Post Inv-loop μ-loop
   loop-again-2 c =
       let o = c .before in
       (kept-outer o, record { from = _; mid = _; kept = kept-outer o; outside = further (reading-outer o) (outer-byte c); inside = first })
+
+  pub meets : {M : Type 1} → lts.Closed (claims t) (own t) chained.Post M
+  meets = lts.spec (claims t) (own t) chained.Post Inv-loop μ-loop loop-holds link-requires enum-known-more passed-requires same-length
+      returns inner-requires joined-requires byte-at-requires inner-requires-2 joint-requires add-next loop-less loop-again outer-requires
+      joined-requires-2 outer-requires-2 joint-requires-2 same-length-2 returns-2 add-next-2 loop-less-2 loop-again-2

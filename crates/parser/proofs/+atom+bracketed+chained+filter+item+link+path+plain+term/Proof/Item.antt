@@ -6,12 +6,13 @@ use borrow.Author.Needs.{needs}
 use borrow.Fn.Kinds.{In}
 use native.Mathlib.Omega.{arith}
 use Rattle.reply.specs.Bytes.{Bytes}
+use Rattle.tree.proofs.Calls.{given, asked}
 use Rattle.reading.proofs.Rules.{StarsRead}
 use Rattle.tokens.specs.Reading.{items}
 use Rattle.tokens.proofs.Places.{inside}
 use Rattle.tokens.proofs.Chains.{Going}
 use Rattle.tokens.proofs.Stars.{atom-read, atom-not-read, no-star, starred}
-use Rattle.parser.proofs.+atom+bracketed+chained+filter+item+link+path+plain+term.Proof.Measures.{given, asked, μ-atom, μ-item}
+use Rattle.parser.proofs.+atom+bracketed+chained+filter+item+link+path+plain+term.Proof.Measures.{μ-atom, μ-item}
 use Rattle.parser.proofs.+atom+bracketed+chained+filter+item+link+path+plain+term.Lts-item as lts
 use Rattle.parser.proofs.item.Reads as item
 use Rattle.parser.proofs.atom.Reads as atom
@@ -22,10 +23,10 @@ use Rattle.parser.proofs.atom.Kinds as atom-kinds
 use Rattle.parser.proofs.item.Kinds as item-kinds
 
 -- what it is given, and what its callees ask and say
-abbrev pub own : ℕ → In 2 item-kinds.ps
+abbrev own : ℕ → In 2 item-kinds.ps
 own = given item-kinds.ps μ-item item.Pre
 
-abbrev pub claims : ℕ → lts.Claims
+abbrev claims : ℕ → lts.Claims
 claims t = (
   asked atom-kinds.ps μ-atom atom.Pre t,
   atom.Post,
@@ -37,13 +38,13 @@ claims t = (
   put-reads.Learnt,
 )
 
-abbrev pub Inv-loop : lts.InvT-loop
+abbrev Inv-loop : lts.InvT-loop
 Inv-loop text at depth table₀ count next₀ written₀ table next written =
     (length table ≡ length table₀)
     × ((before : Bytes) → Going items StarsRead depth text at before count next₀ written₀ table₀
     → Going items StarsRead depth text at before count next written table)
 
-abbrev pub μ-loop : lts.MeasureT-loop
+abbrev μ-loop : lts.MeasureT-loop
 μ-loop text at depth table₀ count next₀ written₀ table next written = length text - next
 
 module _ (t : ℕ) where
@@ -107,57 +108,61 @@ module _ (t : ℕ) where
       let h = a .some in
       (l, omega arith, omega arith)
 
-  pub atom-requires : lts.Need-atom-requires (claims t) (own t) item.Post Inv-loop μ-loop
+  atom-requires : lts.Need-atom-requires (claims t) (own t) item.Post Inv-loop μ-loop
   atom-requires c κs = search needs
 
-  pub enum-known-first : lts.Need-enum-known-first (claims t) (own t) item.Post Inv-loop μ-loop
+  enum-known-first : lts.Need-enum-known-first (claims t) (own t) item.Post Inv-loop μ-loop
   enum-known-first c = search needs
 
-  pub passed-requires : lts.Need-passed-requires (claims t) (own t) item.Post Inv-loop μ-loop
+  passed-requires : lts.Need-passed-requires (claims t) (own t) item.Post Inv-loop μ-loop
   passed-requires c κs = search needs
 
-  pub same-length : lts.Need-same-length (claims t) (own t) item.Post Inv-loop μ-loop
+  same-length : lts.Need-same-length (claims t) (own t) item.Post Inv-loop μ-loop
   same-length c = search needs
 
-  pub returns : lts.Need-returns (claims t) (own t) item.Post Inv-loop μ-loop
+  returns : lts.Need-returns (claims t) (own t) item.Post Inv-loop μ-loop
   returns c =
       let looked = c .before .before in
       rw (c .passed .ensures) (atom-not-read (c .before .match .keys2) (looked .before .before .atom .ensures))
 
-  pub loop-holds : lts.Need-loop-holds (claims t) (own t) item.Post Inv-loop μ-loop
+  loop-holds : lts.Need-loop-holds (claims t) (own t) item.Post Inv-loop μ-loop
   loop-holds c = (refl, λ before g. g)
 
-  pub byte-at-requires : lts.Need-byte-at-requires (claims t) (own t) item.Post Inv-loop μ-loop
+  byte-at-requires : lts.Need-byte-at-requires (claims t) (own t) item.Post Inv-loop μ-loop
   byte-at-requires c κs = search needs
 
-  pub sub-put : lts.Need-sub-put (claims t) (own t) item.Post Inv-loop μ-loop
+  sub-put : lts.Need-sub-put (claims t) (own t) item.Post Inv-loop μ-loop
   sub-put c = one-more (c .before) .1
 
-  pub put-requires : lts.Need-put-requires (claims t) (own t) item.Post Inv-loop μ-loop
+  put-requires : lts.Need-put-requires (claims t) (own t) item.Post Inv-loop μ-loop
   put-requires c κs = omega (arith, one-more (c .before) .2, kept-length (head (c .before)))
 
-  pub add-next : lts.Need-add-next (claims t) (own t) item.Post Inv-loop μ-loop
+  add-next : lts.Need-add-next (claims t) (own t) item.Post Inv-loop μ-loop
   add-next c =
       let own = turn (c .before .before) in
       omega (arith, one-more own .0, beginning (head own) .good .0)
 
-  pub add-written : lts.Need-add-written (claims t) (own t) item.Post Inv-loop μ-loop
+  add-written : lts.Need-add-written (claims t) (own t) item.Post Inv-loop μ-loop
   add-written c =
       let own = turn (c .before .before) in
       omega (arith, one-more own .2, beginning (head own) .good .1)
 
-  pub loop-less : lts.Need-loop-less (claims t) (own t) item.Post Inv-loop μ-loop
+  loop-less : lts.Need-loop-less (claims t) (own t) item.Post Inv-loop μ-loop
   loop-less c = omega (arith, one-more (turn (c .before .before)) .0)
 
-  pub loop-again : lts.Need-loop-again (claims t) (own t) item.Post Inv-loop μ-loop
+  loop-again : lts.Need-loop-again (claims t) (own t) item.Post Inv-loop μ-loop
   loop-again c =
       let wrote = c .before .before in
       let own = turn wrote in
       let inv = head own .loop .inv in
       (wrote .put .kept .0 ∙ inv .0, λ before g. starred (inv .1 before g) (star-next own) (wrote .put .ensures))
 
-  pub same-length-2 : lts.Need-same-length-2 (claims t) (own t) item.Post Inv-loop μ-loop
+  same-length-2 : lts.Need-same-length-2 (claims t) (own t) item.Post Inv-loop μ-loop
   same-length-2 c = kept-length (c .before .before)
 
-  pub returns-2 : lts.Need-returns-2 (claims t) (own t) item.Post Inv-loop μ-loop
+  returns-2 : lts.Need-returns-2 (claims t) (own t) item.Post Inv-loop μ-loop
   returns-2 c = no-star (going (c .before .before)) (λ e. c .if1 .left (c .before .byte-at .ensures ∙ e))
+
+  pub meets : {M : Type 1} → lts.Closed (claims t) (own t) item.Post M
+  meets = lts.spec (claims t) (own t) item.Post Inv-loop μ-loop atom-requires enum-known-first passed-requires same-length returns
+      loop-holds byte-at-requires sub-put put-requires add-next add-written loop-less loop-again same-length-2 returns-2

@@ -1,11 +1,9 @@
 -- The measures of the readers that call each other: 16 for each byte that is not read, and a rank among those that call each other at one
 -- place. Assumes nothing.
-use Prim.Native.Nat.{ℕ, _+_, _-_, _*_, _<_}
+use Prim.Native.Nat.{ℕ, _+_, _-_, _*_}
 use mathlib.Core.List.{List}
 use lib.ListN.{length}
-use borrow.Fn.Kind.{PK}
-use borrow.Fn.Kinds.{In}
-use borrow.Fn.PlainCycle.{Measures, is, falls, and}
+use borrow.Fn.PlainCycle.{Measures}
 use Rattle.tokens.specs.declared.kind.Sort.{Sort}
 use Rattle.tokens.specs.declared.kind.Sort.the-variants as sort
 use Rattle.parser.proofs.atom.Kinds as atom
@@ -17,14 +15,6 @@ use Rattle.parser.proofs.link.Kinds as link
 use Rattle.parser.proofs.path.Kinds as path
 use Rattle.parser.proofs.plain.Kinds as plain
 use Rattle.parser.proofs.term.Kinds as term
-
--- what a reader is given at the measure t
-abbrev pub given : (ps : List (PK 2)) → Measures 2 ps ℕ → In 2 ps → ℕ → In 2 ps
-given ps μ pre t = and 2 ps (is 2 ps μ t) pre
-
--- what a call of it asks below t
-abbrev pub asked : (ps : List (PK 2)) → Measures 2 ps ℕ → In 2 ps → ℕ → In 2 ps
-asked ps μ pre t = and 2 ps (falls 2 ps _<_ μ t) pre
 
 -- the bytes of a text that are not read, from a place on, and a rank
 abbrev unread : List ℕ → ℕ → ℕ → ℕ

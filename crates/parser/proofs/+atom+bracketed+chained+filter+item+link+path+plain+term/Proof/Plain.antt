@@ -8,11 +8,12 @@ use borrow.Author.Needs.{needs}
 use borrow.Fn.Kinds.{In}
 use native.Mathlib.Omega.{arith}
 use Rattle.reply.specs.Bytes.{Bytes}
+use Rattle.tree.proofs.Calls.{given, asked}
 use Rattle.reading.proofs.Rules.{termBytes}
 use Rattle.tokens.proofs.Places.{inside, nor, none-of}
 use Rattle.tokens.proofs.Following.{room-after, ready-on}
 use Rattle.tokens.proofs.Terms.{t-follows, f-follows, label-follows, curly-follows, leads-follows}
-use Rattle.parser.proofs.+atom+bracketed+chained+filter+item+link+path+plain+term.Proof.Measures.{given, asked, μ-bracketed, μ-path}
+use Rattle.parser.proofs.+atom+bracketed+chained+filter+item+link+path+plain+term.Proof.Measures.{μ-bracketed, μ-path}
 use Rattle.parser.proofs.+atom+bracketed+chained+filter+item+link+path+plain+term.Proof.Measures.{μ-plain}
 use Rattle.parser.proofs.+atom+bracketed+chained+filter+item+link+path+plain+term.Lts-plain as lts
 use Rattle.parser.proofs.plain.Reads as plain
@@ -27,10 +28,10 @@ use Rattle.parser.proofs.path.Kinds as path-kinds
 use Rattle.parser.proofs.plain.Kinds as plain-kinds
 
 -- what it is given, and what its callees ask and say
-abbrev pub own : ℕ → In 2 plain-kinds.ps
+abbrev own : ℕ → In 2 plain-kinds.ps
 own = given plain-kinds.ps μ-plain plain.Pre
 
-abbrev pub claims : ℕ → lts.Claims
+abbrev claims : ℕ → lts.Claims
 claims t = (
   byte-at-reads.Asked,
   byte-at-reads.Learnt,
@@ -89,75 +90,80 @@ module _ (t : ℕ) where
       nor (beginning (c .before) .pre .1 .1)
       (nor (λ e. r .0 .0 .0 .1 (b ∙ e)) (nor (λ e. r .0 .0 .1 (b ∙ e)) (nor (λ e. r .0 .1 (b ∙ e)) (nor (λ e. r .1 (b ∙ e)) none-of))))
 
-  pub byte-at-requires : lts.Need-byte-at-requires (claims t) (own t) plain.Post
+  byte-at-requires : lts.Need-byte-at-requires (claims t) (own t) plain.Post
   byte-at-requires c κs = search needs
 
-  pub add-leaf : lts.Need-add-leaf (claims t) (own t) plain.Post
+  add-leaf : lts.Need-add-leaf (claims t) (own t) plain.Post
   add-leaf c = search needs
 
-  pub leaf-requires : lts.Need-leaf-requires (claims t) (own t) plain.Post
+  leaf-requires : lts.Need-leaf-requires (claims t) (own t) plain.Post
   leaf-requires c κs =
       let seen = c .before .before in
       omega (arith, in-text seen (byte-t (c .before)) (omega arith), beginning seen .pre .1 .0 .room)
 
-  pub add-leaf-2 : lts.Need-add-leaf-2 (claims t) (own t) plain.Post
+  add-leaf-2 : lts.Need-add-leaf-2 (claims t) (own t) plain.Post
   add-leaf-2 c = search needs
 
-  pub leaf-requires-2 : lts.Need-leaf-requires-2 (claims t) (own t) plain.Post
+  leaf-requires-2 : lts.Need-leaf-requires-2 (claims t) (own t) plain.Post
   leaf-requires-2 c κs =
       let seen = c .before .before in
       omega (arith, in-text seen (byte-f (c .before)) (omega arith), beginning seen .pre .1 .0 .room)
 
-  pub add-labelled : lts.Need-add-labelled (claims t) (own t) plain.Post
+  add-labelled : lts.Need-add-labelled (claims t) (own t) plain.Post
   add-labelled c = search needs
 
-  pub labelled-requires : lts.Need-labelled-requires (claims t) (own t) plain.Post
+  labelled-requires : lts.Need-labelled-requires (claims t) (own t) plain.Post
   labelled-requires c κs =
       let seen = c .before .before in
       ready-on (beginning seen .pre .1 .0) (in-text seen (byte-hash (c .before)) (omega arith))
 
-  pub bracketed-requires : lts.Need-bracketed-requires (claims t) (own t) plain.Post
+  bracketed-requires : lts.Need-bracketed-requires (claims t) (own t) plain.Post
   bracketed-requires c κs =
       let seen = c .before .before in
       (omega arith, (beginning seen .pre .1 .0, at-byte seen (c .before .match .keys4)))
 
-  pub path-requires : lts.Need-path-requires (claims t) (own t) plain.Post
+  path-requires : lts.Need-path-requires (claims t) (own t) plain.Post
   path-requires c κs = search needs
 
-  pub behind-requires : lts.Need-behind-requires (claims t) (own t) plain.Post
+  behind-requires : lts.Need-behind-requires (claims t) (own t) plain.Post
   behind-requires c κs =
       let read = c .before .before .before in
       let seen = read .before .before .before in
       room-after (read .path .ensures) (beginning seen .pre .1 .0) (le-refl _) (omega arith) (read .path .kept .1 .1 .1 .0)
 
-  pub same-length : lts.Need-same-length (claims t) (own t) plain.Post
+  same-length : lts.Need-same-length (claims t) (own t) plain.Post
   same-length c = search needs
 
-  pub returns : lts.Need-returns (claims t) (own t) plain.Post
+  returns : lts.Need-returns (claims t) (own t) plain.Post
   returns c = let wrote = c .before .before in t-follows (byte-t (wrote .before .before)) (wrote .leaf .ensures)
 
-  pub same-length-2 : lts.Need-same-length-2 (claims t) (own t) plain.Post
+  same-length-2 : lts.Need-same-length-2 (claims t) (own t) plain.Post
   same-length-2 c = search needs
 
-  pub returns-2 : lts.Need-returns-2 (claims t) (own t) plain.Post
+  returns-2 : lts.Need-returns-2 (claims t) (own t) plain.Post
   returns-2 c = let wrote = c .before .before in f-follows (byte-f (wrote .before .before)) (wrote .leaf2 .ensures)
 
-  pub same-length-3 : lts.Need-same-length-3 (claims t) (own t) plain.Post
+  same-length-3 : lts.Need-same-length-3 (claims t) (own t) plain.Post
   same-length-3 c = search needs
 
-  pub returns-3 : lts.Need-returns-3 (claims t) (own t) plain.Post
+  returns-3 : lts.Need-returns-3 (claims t) (own t) plain.Post
   returns-3 c = let wrote = c .before .before in label-follows (byte-hash (wrote .before .before)) (wrote .labelled .ensures)
 
-  pub same-length-4 : lts.Need-same-length-4 (claims t) (own t) plain.Post
+  same-length-4 : lts.Need-same-length-4 (claims t) (own t) plain.Post
   same-length-4 c = search needs
 
-  pub returns-4 : lts.Need-returns-4 (claims t) (own t) plain.Post
+  returns-4 : lts.Need-returns-4 (claims t) (own t) plain.Post
   returns-4 c = let read = c .before .before in curly-follows (read .bracketed .ensures)
 
-  pub same-length-5 : lts.Need-same-length-5 (claims t) (own t) plain.Post
+  same-length-5 : lts.Need-same-length-5 (claims t) (own t) plain.Post
   same-length-5 c = search needs
 
-  pub returns-5 : lts.Need-returns-5 (claims t) (own t) plain.Post
+  returns-5 : lts.Need-returns-5 (claims t) (own t) plain.Post
   returns-5 c =
       let read = c .before .before .before .before .before .before in
       leads-follows (no-term (read .before .before)) (read .path .ensures) (c .before .before .behind .ensures)
+
+  pub meets : {M : Type 1} → lts.Closed (claims t) (own t) plain.Post M
+  meets = lts.spec (claims t) (own t) plain.Post byte-at-requires add-leaf leaf-requires add-leaf-2 leaf-requires-2 add-labelled
+      labelled-requires bracketed-requires path-requires behind-requires same-length returns same-length-2 returns-2 same-length-3 returns-3
+      same-length-4 returns-4 same-length-5 returns-5

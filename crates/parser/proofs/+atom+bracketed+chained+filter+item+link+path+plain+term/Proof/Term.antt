@@ -7,10 +7,11 @@ use borrow.Author.Needs.{needs}
 use borrow.Fn.Kinds.{In}
 use native.Mathlib.Omega.{arith}
 use Rattle.reply.specs.Bytes.{Bytes}
+use Rattle.tree.proofs.Calls.{given, asked}
 use Rattle.tokens.specs.Reading.{Follows, terms}
 use Rattle.tokens.proofs.Following.{room-after}
 use Rattle.tokens.proofs.Terms.{not-follows}
-use Rattle.parser.proofs.+atom+bracketed+chained+filter+item+link+path+plain+term.Proof.Measures.{given, asked, μ-plain, μ-term}
+use Rattle.parser.proofs.+atom+bracketed+chained+filter+item+link+path+plain+term.Proof.Measures.{μ-plain, μ-term}
 use Rattle.parser.proofs.+atom+bracketed+chained+filter+item+link+path+plain+term.Lts-term as lts
 use Rattle.parser.proofs.term.Reads as term
 use Rattle.tokens.proofs.label.past_nots.Reads as past-nots-reads
@@ -20,10 +21,10 @@ use Rattle.parser.proofs.plain.Kinds as plain-kinds
 use Rattle.parser.proofs.term.Kinds as term-kinds
 
 -- what it is given, and what its callees ask and say
-abbrev pub own : ℕ → In 2 term-kinds.ps
+abbrev own : ℕ → In 2 term-kinds.ps
 own = given term-kinds.ps μ-term term.Pre
 
-abbrev pub claims : ℕ → lts.Claims
+abbrev claims : ℕ → lts.Claims
 claims t = (
   past-nots-reads.Asked,
   past-nots-reads.Learnt,
@@ -34,13 +35,13 @@ claims t = (
 )
 
 -- what is answered for the place where the loop begins, is for the place where it stands
-abbrev pub Inv-loop : lts.InvT-loop
+abbrev Inv-loop : lts.InvT-loop
 Inv-loop text at depth table₀ count next₀ answer₀ table next answer =
     (at ≤ next) × (next ≤ next₀) × (length table ≡ length table₀)
     × ((before : Bytes) → Follows terms depth text next₀ before count answer₀ table₀
     → Follows terms depth text next before count answer table)
 
-abbrev pub μ-loop : lts.MeasureT-loop
+abbrev μ-loop : lts.MeasureT-loop
 μ-loop text at depth table₀ count next₀ answer₀ table next answer = next
 
 module _ (t : ℕ) where
@@ -79,10 +80,10 @@ module _ (t : ℕ) where
   kept-length : (c : Head) → length (c .loop .table) ≡ length (beginning (passed c) .args .table .now)
   kept-length c = c .loop .inv .2 ∙ at-plain c .plain .kept .1 .1 .1 .0
 
-  pub past-nots-requires : lts.Need-past-nots-requires (claims t) (own t) term.Post Inv-loop μ-loop
+  past-nots-requires : lts.Need-past-nots-requires (claims t) (own t) term.Post Inv-loop μ-loop
   past-nots-requires c κs = c .before .before .pre .1 .within
 
-  pub plain-requires : lts.Need-plain-requires (claims t) (own t) term.Post Inv-loop μ-loop
+  plain-requires : lts.Need-plain-requires (claims t) (own t) term.Post Inv-loop μ-loop
   plain-requires c κs =
       let s = beginning (c .before) in
       let nots = c .before .past-nots .ensures in
@@ -92,22 +93,22 @@ module _ (t : ℕ) where
       let r = s .pre .1 .room in
       (omega arith, (record { within = b; room = omega arith }, nots .other))
 
-  pub loop-holds : lts.Need-loop-holds (claims t) (own t) term.Post Inv-loop μ-loop
+  loop-holds : lts.Need-loop-holds (claims t) (own t) term.Post Inv-loop μ-loop
   loop-holds c = (c .before .before .before .before .past-nots .ensures .on, omega arith, refl, λ before f. f)
 
-  pub behind-requires : lts.Need-behind-requires (claims t) (own t) term.Post Inv-loop μ-loop
+  behind-requires : lts.Need-behind-requires (claims t) (own t) term.Post Inv-loop μ-loop
   behind-requires c κs =
       let h = c .before .before in
       let l = c .before .loop-test in
       room-after (answered h) (beginning (passed h) .pre .1) (h .loop .inv .0) (omega arith) (kept-length h)
 
-  pub sub-next : lts.Need-sub-next (claims t) (own t) term.Post Inv-loop μ-loop
+  sub-next : lts.Need-sub-next (claims t) (own t) term.Post Inv-loop μ-loop
   sub-next c = search needs
 
-  pub loop-less : lts.Need-loop-less (claims t) (own t) term.Post Inv-loop μ-loop
+  loop-less : lts.Need-loop-less (claims t) (own t) term.Post Inv-loop μ-loop
   loop-less c = search needs
 
-  pub loop-again : lts.Need-loop-again (claims t) (own t) term.Post Inv-loop μ-loop
+  loop-again : lts.Need-loop-again (claims t) (own t) term.Post Inv-loop μ-loop
   loop-again c =
       let h = head c in
       let l = c .before .before .before .before .loop-test in
@@ -123,12 +124,16 @@ module _ (t : ℕ) where
             not-follows byte one-on (wrote .ensures),
       )
 
-  pub same-length : lts.Need-same-length (claims t) (own t) term.Post Inv-loop μ-loop
+  same-length : lts.Need-same-length (claims t) (own t) term.Post Inv-loop μ-loop
   same-length c = kept-length (c .before)
 
-  pub returns : lts.Need-returns (claims t) (own t) term.Post Inv-loop μ-loop
+  returns : lts.Need-returns (claims t) (own t) term.Post Inv-loop μ-loop
   returns c =
       let h = c .before in
       let l = c .loop-test in
       let e : h .loop .next ≡ beginning (passed h) .args .at = omega arith in
       subst (λ (i : ℕ). From h i (beginning (passed h) .args .table .now)) e (answered h)
+
+  pub meets : {M : Type 1} → lts.Closed (claims t) (own t) term.Post M
+  meets = lts.spec (claims t) (own t) term.Post Inv-loop μ-loop past-nots-requires plain-requires loop-holds behind-requires sub-next
+      loop-less loop-again same-length returns
