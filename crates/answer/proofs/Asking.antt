@@ -24,8 +24,8 @@ module _ {limit : Limits} {query : Bytes} (q : Query limit query) where
   pub some-entry : 1 ≤ length (entries query)
   some-entry = omega (arith, entries-length query, q .size .some, q .size .size .multiple)
 
-  pub query-grounds : {roll : Bytes} {next previous : List ℕ} → Roll roll → Siblings (nodes roll) next previous → Grounds roll query next previous
-  query-grounds r links = record { roll-right = r; links = links; each = λ i l. q .entry i l .right }
+  pub query-grounds : {roll : Bytes} {links : List ℕ} → Roll roll → Siblings (nodes roll) links → Grounds roll query links
+  query-grounds r links = record { roll-right = r; linked = links; each = λ i l. q .entry i l .right }
 
   module _ {start : ℕ} {none from : List ℕ} (empty : Holds (λ k. ⊥) none) (one : Holds (λ j. In none j ⊎ (start ≡ j)) from) where
     -- the start is the one member

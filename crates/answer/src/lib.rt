@@ -46,15 +46,13 @@ pub fn reached(
     requires { ⌜ Held (now roll) (now query) known (now holding) ⌝ }
     ensures { λ r. ⌜ Holds (reach (nodes (now (roll .entry))) (queryOf (entries (now (query .entry)))) start) r ⌝ }
 {
-    let mut next = [NONE; 4096];
-    let mut previous = [NONE; 4096];
-    link(roll, &mut next, &mut previous);
+    let mut links = [NONE; 8192];
+    link(roll, &mut links);
     let mut from = empty();
     add(&mut from, start);
     image(
         roll,
-        &next,
-        &previous,
+        &links,
         query,
         known,
         holding,

@@ -6,7 +6,12 @@ use mathlib.Core.List.{List}
 use Rattle.query.specs.Meaning.{Star, stop, step}
 use Rattle.query.proofs.Closure.{star-keeps, star-map, star-more}
 use Rattle.sets.specs.Sets.{In, Holds, Image}
-use Rattle.evaluator.specs.Evaluator.{Then, Covers}
+use Rattle.evaluator.specs.Evaluator.{Then}
+
+-- a set that has what a star starts from, and all that steps lead to from it
+pub record Covers (A : ℕ → ℕ → Type 0) (from all : List ℕ) : Type 0 where
+  pub start : (i : ℕ) → In from i → In all i
+  pub closed : (i j : ℕ) → In all i → A i j → In all j
 
 -- a step that starts from one of the sources
 abbrev pub From : (ℕ → ℕ → Type 0) → List ℕ → ℕ → ℕ → Type 0

@@ -44,14 +44,14 @@ unfolding OperandField
 operand-within w (l, h) = (l, record { within = omega (arith, w .within); sort = h })
 
 -- and is asked of a set of nodes: four times its number, and three more for a star above it, is below four times e.
-pub operand : {roll tab : Bytes} {next previous : List ℕ} {known : ℕ} {holding : List ℕ} {s o : Sort} {e x t : ℕ} {set : List ℕ}
-    → Knowing roll tab next previous known holding → Within tab s e → 4 * e ≡ t → OperandField (entries tab) e (of o) x → Inside (length (nodes roll)) set
-    → (4 * x + 3 < t) × (Knowing roll tab next previous known holding × Asked roll tab o x set)
+pub operand : {roll tab : Bytes} {links : List ℕ} {known : ℕ} {holding : List ℕ} {s o : Sort} {e x t : ℕ} {set : List ℕ}
+    → Knowing roll tab links known holding → Within tab s e → 4 * e ≡ t → OperandField (entries tab) e (of o) x → Inside (length (nodes roll)) set
+    → (4 * x + 3 < t) × (Knowing roll tab links known holding × Asked roll tab o x set)
 operand g w m f inside = let (l, w′) = operand-within w f in (omega arith, (g, record { entry = w′; nodes-only = inside }))
 
-pub operand-below : {roll tab : Bytes} {next previous : List ℕ} {known : ℕ} {holding : List ℕ} {s o : Sort} {e x t : ℕ} {set : List ℕ}
-    → Knowing roll tab next previous known holding → Within tab s e → 4 * e ≡ t → OperandField (entries tab) e (of o) x → Inside (length (nodes roll)) set
-    → (4 * x < t) × (Knowing roll tab next previous known holding × Asked roll tab o x set)
+pub operand-below : {roll tab : Bytes} {links : List ℕ} {known : ℕ} {holding : List ℕ} {s o : Sort} {e x t : ℕ} {set : List ℕ}
+    → Knowing roll tab links known holding → Within tab s e → 4 * e ≡ t → OperandField (entries tab) e (of o) x → Inside (length (nodes roll)) set
+    → (4 * x < t) × (Knowing roll tab links known holding × Asked roll tab o x set)
 operand-below g w m f inside = let (l, more) = operand g w m f inside in (omega arith, more)
 
 module _ {tab : Bytes} {s : Sort} {e : ℕ} {read : Entry} (k : Read tab s e read) where

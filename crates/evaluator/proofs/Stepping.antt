@@ -14,10 +14,10 @@ use Rattle.steps.specs.Star.{StepFrom}
 use Rattle.steps.specs.declared.axis.Axes.{Axes}
 use Rattle.steps.proofs.Axes.{any-node, any-end}
 use Rattle.evaluator.specs.declared.ways.Way.the-variants.{Along}
-use Rattle.evaluator.specs.Evaluator.{Then, Covers}
+use Rattle.evaluator.specs.Evaluator.{Then}
 use Rattle.evaluator.specs.Ways.{Leads}
 use Rattle.evaluator.proofs.Images.{Stays, image-star}
-use Rattle.evaluator.proofs.Filtered.{From}
+use Rattle.evaluator.proofs.Filtered.{Covers, From}
 
 -- a choice of paths that lead along axes leads along the axes of either
 pub choice-leads : {a b r : Axes} (p q : Path) → Leads p (Along a) → Leads q (Along b)

@@ -19,9 +19,9 @@ abbrev pub InOrder : Bytes → Type 0
 InOrder table = (i : ℕ) → i < length (entries table) → EntryRight (entries table) i
 
 -- a roll with its links, and a table whose entries are in order
-pub record Grounds (roll table : Bytes) (next previous : List ℕ) : Type 0 where
+pub record Grounds (roll table : Bytes) (links : List ℕ) : Type 0 where
   pub roll-right : Roll roll
-  pub links : Siblings (nodes roll) next previous
+  pub linked : Siblings (nodes roll) links
   pub each : InOrder table
 
 -- the nodes where the filter of entry `known` holds, if the table has such an entry
@@ -30,8 +30,8 @@ Held roll table known holding =
     known < length (entries table) → (k : ℕ) → k < length (nodes roll) → In holding k ↔ holds (nodes roll) (filterAt (entries table) known) k
 
 -- all that an evaluation is given
-pub record Knowing (roll table : Bytes) (next previous : List ℕ) (known : ℕ) (holding : List ℕ) : Type 0 where
-  pub grounds : Grounds roll table next previous
+pub record Knowing (roll table : Bytes) (links : List ℕ) (known : ℕ) (holding : List ℕ) : Type 0 where
+  pub grounds : Grounds roll table links
   pub answer : Held roll table known holding
 
 -- the table has an entry e of a sort
@@ -51,8 +51,3 @@ Then R Q i j = (k : ℕ) × R i k × Q k j
 -- the path stays where it is
 abbrev pub Still : Path → Type 0
 Still p = (t : Tree) (i j : ℕ) → reach t p i j → i ≡ j
-
--- a set that has what a star starts from, and all that steps lead to from it
-pub record Covers (A : ℕ → ℕ → Type 0) (from all : List ℕ) : Type 0 where
-  pub start : (i : ℕ) → In from i → In all i
-  pub closed : (i j : ℕ) → In all i → A i j → In all j

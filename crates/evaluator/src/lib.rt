@@ -40,8 +40,7 @@ ghost use Rattle.evaluator.specs.Evaluator.{Knowing, Asked, Then, Still}
 // What the path of entry e reaches from a set of nodes, on the course given.
 pub fn image(
     roll: &[u8],
-    next: &[u16; 4096],
-    prior: &[u16; 4096],
+    links: &[u16; 8192],
     table: &[u8],
     known: usize,
     held: &[u64; 64],
@@ -49,7 +48,7 @@ pub fn image(
     course: Course,
     from: [u64; 64],
 ) -> [u64; 64]
-    requires { ⌜ Knowing (now roll) (now table) (now next) (now prior) known (now held) × Asked (now roll) (now table) path e from ⌝ }
+    requires { ⌜ Knowing (now roll) (now table) (now links) known (now held) × Asked (now roll) (now table) path e from ⌝ }
     ensures { λ r. ⌜ Image (reach (nodes (now (roll .entry))) (facing course (pathAt (entries (now (table .entry))) e))) from r ⌝ }
 {
     if is_empty(from) {
@@ -60,26 +59,26 @@ pub fn image(
     let left = entry.left;
     let right = entry.right;
     match kind {
-        2 | 3 | 4 | 5 => step(roll, next, prior, only(way(axis_of(kind), course)), from),
+        2 | 3 | 4 | 5 => step(roll, links, only(way(axis_of(kind), course)), from),
         6 => {
             if is_free(course) {
                 from
             } else {
-                narrow(roll, next, prior, table, known, held, left, from)
+                narrow(roll, links, table, known, held, left, from)
             }
         }
         7 => {
             let first = first_of(course, left, right);
             let second = first_of(course, right, left);
-            let half = image(roll, next, prior, table, known, held, first, course, from);
-            image(roll, next, prior, table, known, held, second, course, half)
+            let half = image(roll, links, table, known, held, first, course, from);
+            image(roll, links, table, known, held, second, course, half)
         }
         8 => {
-            let one = image(roll, next, prior, table, known, held, left, course, from);
-            let other = image(roll, next, prior, table, known, held, right, course, from);
+            let one = image(roll, links, table, known, held, left, course, from);
+            let other = image(roll, links, table, known, held, right, course, from);
             union(one, other)
         }
-        9 => star(roll, next, prior, table, known, held, left, course, from),
+        9 => star(roll, links, table, known, held, left, course, from),
         _ => from,
     }
 }
@@ -88,8 +87,7 @@ pub fn image(
 // reaches; and a path made of others goes by rounds.
 fn star(
     roll: &[u8],
-    next: &[u16; 4096],
-    prior: &[u16; 4096],
+    links: &[u16; 8192],
     table: &[u8],
     known: usize,
     held: &[u64; 64],
@@ -97,29 +95,19 @@ fn star(
     course: Course,
     from: [u64; 64],
 ) -> [u64; 64]
-    requires { ⌜ Knowing (now roll) (now table) (now next) (now prior) known (now held) × Asked (now roll) (now table) path e from ⌝ }
+    requires { ⌜ Knowing (now roll) (now table) (now links) known (now held) × Asked (now roll) (now table) path e from ⌝ }
     ensures { λ r. ⌜ Image (reach (nodes (now (roll .entry))) (syntax.star (facing course (pathAt (entries (now (table .entry))) e)))) from r ⌝ }
 {
     let entry = entry_at(table, e);
     let kind = entry.kind;
     match kind {
-        7 => of_two(roll, next, prior, table, known, held, e, course, from),
-        9 => star(
-            roll,
-            next,
-            prior,
-            table,
-            known,
-            held,
-            entry.left,
-            course,
-            from,
-        ),
+        7 => of_two(roll, links, table, known, held, e, course, from),
+        9 => star(roll, links, table, known, held, entry.left, course, from),
         _ => {
             let way = way_of(table, e, course, DEEP);
             match way {
-                Way::Along(axes) => closure(roll, next, prior, axes, below(4096), from),
-                Way::Otherwise => by_rounds(roll, next, prior, table, known, held, e, course, from),
+                Way::Along(axes) => closure(roll, links, axes, below(4096), from),
+                Way::Otherwise => by_rounds(roll, links, table, known, held, e, course, from),
             }
         }
     }
@@ -129,8 +117,7 @@ fn star(
 // on from each node once.
 fn of_two(
     roll: &[u8],
-    next: &[u16; 4096],
-    prior: &[u16; 4096],
+    links: &[u16; 8192],
     table: &[u8],
     known: usize,
     held: &[u64; 64],
@@ -138,7 +125,7 @@ fn of_two(
     course: Course,
     from: [u64; 64],
 ) -> [u64; 64]
-    requires { ⌜ Knowing (now roll) (now table) (now next) (now prior) known (now held) × Asked (now roll) (now table) path e from ⌝ }
+    requires { ⌜ Knowing (now roll) (now table) (now links) known (now held) × Asked (now roll) (now table) path e from ⌝ }
     requires { ⌜ entryAt (entries (now table)) e .kind ≡ 7 ⌝ }
     ensures { λ r. ⌜ Image (reach (nodes (now (roll .entry))) (syntax.star (facing course (pathAt (entries (now (table .entry))) e)))) from r ⌝ }
 {
@@ -148,46 +135,23 @@ fn of_two(
     if stays_at_hand(table, known, first) {
         let way = way_of(table, second, course, DEEP);
         if let Way::Along(axes) = way {
-            return filter_first(
-                roll,
-                next,
-                prior,
-                table,
-                known,
-                held,
-                first,
-                axes,
-                course,
-                from,
-            );
+            return filter_first(roll, links, table, known, held, first, axes, course, from);
         }
     } else {
         if stays_at_hand(table, known, second) {
             let way = way_of(table, first, course, DEEP);
             if let Way::Along(axes) = way {
-                return filter_last(
-                    roll,
-                    next,
-                    prior,
-                    table,
-                    known,
-                    held,
-                    second,
-                    axes,
-                    course,
-                    from,
-                );
+                return filter_last(roll, links, table, known, held, second, axes, course, from);
             }
         }
     }
-    by_rounds(roll, next, prior, table, known, held, e, course, from)
+    by_rounds(roll, links, table, known, held, e, course, from)
 }
 
 // The star of the filter of entry e and then a step along the axes. One go may add nothing; else the filter is asked of all nodes at once.
 fn filter_first(
     roll: &[u8],
-    next: &[u16; 4096],
-    prior: &[u16; 4096],
+    links: &[u16; 8192],
     table: &[u8],
     known: usize,
     held: &[u64; 64],
@@ -196,25 +160,24 @@ fn filter_first(
     course: Course,
     from: [u64; 64],
 ) -> [u64; 64]
-    requires { ⌜ Knowing (now roll) (now table) (now next) (now prior) known (now held) × Asked (now roll) (now table) path e from ⌝ }
+    requires { ⌜ Knowing (now roll) (now table) (now links) known (now held) × Asked (now roll) (now table) path e from ⌝ }
     requires { ⌜ Still (facing course (pathAt (entries (now table)) e)) ⌝ }
     ensures { λ r. ⌜ Image (Star (Then (reach (nodes (now (roll .entry))) (facing course (pathAt (entries (now (table .entry))) e))) (AlongAny (nodes (now (roll .entry))) axes))) from r ⌝ }
 {
-    let here = image(roll, next, prior, table, known, held, e, course, from);
-    let reached = step(roll, next, prior, axes, here);
+    let here = image(roll, links, table, known, held, e, course, from);
+    let reached = step(roll, links, axes, here);
     if is_empty(difference(reached, from)) {
         return from;
     }
     let all = below(count(roll));
-    let sources = image(roll, next, prior, table, known, held, e, course, all);
-    closure(roll, next, prior, axes, sources, from)
+    let sources = image(roll, links, table, known, held, e, course, all);
+    closure(roll, links, axes, sources, from)
 }
 
 // The star of a step along the axes and then the filter of entry e.
 fn filter_last(
     roll: &[u8],
-    next: &[u16; 4096],
-    prior: &[u16; 4096],
+    links: &[u16; 8192],
     table: &[u8],
     known: usize,
     held: &[u64; 64],
@@ -223,26 +186,25 @@ fn filter_last(
     course: Course,
     from: [u64; 64],
 ) -> [u64; 64]
-    requires { ⌜ Knowing (now roll) (now table) (now next) (now prior) known (now held) × Asked (now roll) (now table) path e from ⌝ }
+    requires { ⌜ Knowing (now roll) (now table) (now links) known (now held) × Asked (now roll) (now table) path e from ⌝ }
     requires { ⌜ Still (facing course (pathAt (entries (now table)) e)) ⌝ }
     ensures { λ r. ⌜ Image (Star (Then (AlongAny (nodes (now (roll .entry))) axes) (reach (nodes (now (roll .entry))) (facing course (pathAt (entries (now (table .entry))) e))))) from r ⌝ }
 {
-    let begun = step(roll, next, prior, axes, from);
-    let reached = image(roll, next, prior, table, known, held, e, course, begun);
+    let begun = step(roll, links, axes, from);
+    let reached = image(roll, links, table, known, held, e, course, begun);
     if is_empty(difference(reached, from)) {
         return from;
     }
     let all = below(count(roll));
-    let sources = image(roll, next, prior, table, known, held, e, course, all);
-    let ends = closure(roll, next, prior, axes, sources, begun);
+    let sources = image(roll, links, table, known, held, e, course, all);
+    let ends = closure(roll, links, axes, sources, begun);
     union(from, common(ends, sources))
 }
 
 // What the path of entry e reaches in zero or more goes, by rounds: it goes on from what is new in the last one, until nothing is.
 fn by_rounds(
     roll: &[u8],
-    next: &[u16; 4096],
-    prior: &[u16; 4096],
+    links: &[u16; 8192],
     table: &[u8],
     known: usize,
     held: &[u64; 64],
@@ -250,14 +212,14 @@ fn by_rounds(
     course: Course,
     from: [u64; 64],
 ) -> [u64; 64]
-    requires { ⌜ Knowing (now roll) (now table) (now next) (now prior) known (now held) × Asked (now roll) (now table) path e from ⌝ }
+    requires { ⌜ Knowing (now roll) (now table) (now links) known (now held) × Asked (now roll) (now table) path e from ⌝ }
     ensures { λ r. ⌜ Image (reach (nodes (now (roll .entry))) (syntax.star (facing course (pathAt (entries (now (table .entry))) e)))) from r ⌝ }
 {
     let mut all = empty();
     let mut fresh = from;
     while !is_empty(fresh) {
         let grown = union(all, fresh);
-        let reached = image(roll, next, prior, table, known, held, e, course, fresh);
+        let reached = image(roll, links, table, known, held, e, course, fresh);
         let rest = difference(reached, grown);
         all = grown;
         fresh = rest;
@@ -269,15 +231,14 @@ fn by_rounds(
 // filters all held: these nodes are found with no filter evaluated, and all that it leads to is among them.
 pub fn narrow(
     roll: &[u8],
-    next: &[u16; 4096],
-    prior: &[u16; 4096],
+    links: &[u16; 8192],
     table: &[u8],
     known: usize,
     held: &[u64; 64],
     e: usize,
     from: [u64; 64],
 ) -> [u64; 64]
-    requires { ⌜ Knowing (now roll) (now table) (now next) (now prior) known (now held) × Asked (now roll) (now table) filter e from ⌝ }
+    requires { ⌜ Knowing (now roll) (now table) (now links) known (now held) × Asked (now roll) (now table) filter e from ⌝ }
     ensures { λ r. ⌜ Narrowed (holds (nodes (now (roll .entry))) (filterAt (entries (now (table .entry))) e)) from r ⌝ }
 {
     if is_empty(from) {
@@ -295,26 +256,20 @@ pub fn narrow(
         17 => {
             let free = Course::Freely;
             let back = Course::Backwards;
-            let ends = image(roll, next, prior, table, known, held, left, free, from);
-            let starts = image(roll, next, prior, table, known, held, left, back, ends);
+            let ends = image(roll, links, table, known, held, left, free, from);
+            let starts = image(roll, links, table, known, held, left, back, ends);
             common(from, starts)
         }
         18 => from,
-        20 => difference(
-            from,
-            narrow(roll, next, prior, table, known, held, left, from),
-        ),
+        20 => difference(from, narrow(roll, links, table, known, held, left, from)),
         21 => {
-            let first = narrow(roll, next, prior, table, known, held, left, from);
-            narrow(roll, next, prior, table, known, held, right, first)
+            let first = narrow(roll, links, table, known, held, left, from);
+            narrow(roll, links, table, known, held, right, first)
         }
         22 => {
-            let first = narrow(roll, next, prior, table, known, held, left, from);
+            let first = narrow(roll, links, table, known, held, left, from);
             let rest = difference(from, first);
-            union(
-                first,
-                narrow(roll, next, prior, table, known, held, right, rest),
-            )
+            union(first, narrow(roll, links, table, known, held, right, rest))
         }
         _ => empty(),
     }

@@ -1,4 +1,5 @@
-// The links of a roll: the next and the previous sibling of every record, worked out once in one scan, since the climb gives both.
+// The links of a roll: the next sibling of every record and, 4,096 places behind it, the previous one. One scan works out all of them, since
+// the climb gives both.
 use roll::Sibling;
 use roll::count;
 use roll::previous_of;
@@ -11,18 +12,18 @@ ghost use Rattle.links.specs.Links.{Siblings};
 pub const NONE: u16 = 65535;
 
 // Fills in the links, none of which is there at first.
-pub fn link(roll: &[u8], next: &mut [u16; 4096], previous: &mut [u16; 4096])
+pub fn link(roll: &[u8], links: &mut [u16; 8192])
     requires { ⌜ Roll (now roll) ⌝ }
-    requires { ⌜ (now next ≡ replicate 4096 65535) × (now previous ≡ replicate 4096 65535) ⌝ }
-    ensures { λ _. ⌜ Siblings (nodes (now (roll .entry))) (now (next .exit)) (now (previous .exit)) ⌝ }
+    requires { ⌜ now links ≡ replicate 8192 65535 ⌝ }
+    ensures { λ _. ⌜ Siblings (nodes (now (roll .entry))) (now (links .exit)) ⌝ }
 {
     let n = count(roll);
     let mut j = 0;
     while j < n {
         let before = previous_of(roll, j);
         if let Sibling::At(i) = before {
-            previous[j] = i as u16;
-            next[i] = j as u16;
+            links[4096 + j] = i as u16;
+            links[i] = j as u16;
         }
         j += 1;
     }

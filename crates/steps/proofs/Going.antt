@@ -19,7 +19,7 @@ use Rattle.steps.specs.declared.axis.Axes.{Axes}
 use Rattle.steps.specs.Axis.{AlongAny}
 use Rattle.steps.specs.Added.{Added}
 use Rattle.steps.proofs.Adding.{added-same}
-use Rattle.steps.specs.Star.{Waits, Digits, FirstWaiting, at, none, StepFrom, GoneOn}
+use Rattle.steps.specs.Star.{Waits, Digits, WordWith, at, none, StepFrom, GoneOn}
 
 -- the digits of a word that wait
 pub waiting-word : (set sources gone : List ℕ) (w k : ℕ) → k < 64
@@ -95,7 +95,7 @@ pub gone-more : {gone after : List ℕ} {i : ℕ} → ((k : ℕ) → In gone k �
 gone-more {i = i} still low out x = grown still (λ same. out (same i low x))
 
 -- and by those of a word, where one waited and none does any more
-pub gone-word : {R : ℕ → ℕ → Type 0} {set sources gone more after : List ℕ} {w : ℕ} → w < 64 → FirstWaiting (Waits set sources gone) w → GoneOn R set gone more after
+pub gone-word : {R : ℕ → ℕ → Type 0} {set sources gone more after : List ℕ} {w : ℕ} → w < 64 → WordWith (Waits set sources gone) w → GoneOn R set gone more after
     → ((k : ℕ) → k < 64 → ¬ Waits more sources after (64 * w + k)) → sizeOf gone < sizeOf after
 gone-word low (none e all) g left = absurd (omega arith)
 gone-word {after = after} {w} low (at k l low′ waits) g left =
@@ -106,7 +106,7 @@ gone-word {after = after} {w} low (at k l low′ waits) g left =
     ])
 
 -- behind the last word, all that may be gone on from has been
-pub none-waits : {set sources gone : List ℕ} {w : ℕ} → 64 ≤ w → FirstWaiting (Waits set sources gone) w
+pub none-waits : {set sources gone : List ℕ} {w : ℕ} → 64 ≤ w → WordWith (Waits set sources gone) w
     → (k : ℕ) → k < 4096 → In set k → In sources k → In gone k
 none-waits last (at m l low′ waits) k low x y = absurd (omega arith)
 none-waits {gone = gone} last (none e all) k low x y =

@@ -95,8 +95,8 @@ passed {j = j} c waits k =
     )
 
 -- a right link leads where a relation does that leads to one place only
-pub leads : {R : ℕ → ℕ → Type 0} {links : List ℕ} {i v : ℕ} → Link R i v → getD links i 65535 ≡ v
-    → ((j j′ : ℕ) → R i j → R i j′ → j ≡ j′) → (j : ℕ) → Leads links i j ↔ R i j
+pub leads : {R : ℕ → ℕ → Type 0} {links : List ℕ} {place i v : ℕ} → Link R i v → getD links place 65535 ≡ v
+    → ((j j′ : ℕ) → R i j → R i j′ → j ≡ j′) → (j : ℕ) → Leads links place j ↔ R i j
 leads {v = v} (to l r) e one j =
     (λ h. rw (sym e ∙ h .link) at r, λ s. record { link = e ∙ one v j r s; node = rw (one v j r s) at l })
 leads (nowhere none) e one j = (λ h. let l = h .node in absurd (omega (arith, h .link)), λ s. absurd (none j s))

@@ -17,7 +17,7 @@ pub record FirstChild (t : Tree) (i j : ℕ) : Type 0 where
   pub child : Child t i j
   pub first : (k : ℕ) → Child t i k → j ≤ k
 
--- the link of i leads to j
+-- the i-th link leads to j
 pub record Leads (links : List ℕ) (i j : ℕ) : Type 0 where
   pub link : getD links i 65535 ≡ j
   pub node : j < 4096

@@ -27,9 +27,9 @@ pub record Digits (P : ℕ → Type 0) (w word : ℕ) : Type 0 where
   pub fits : word < 2 ^ 64
 
 -- w is a word with a number of the property, or 64 where no number of a set has it
-pub data FirstWaiting (P : ℕ → Type 0) (w : ℕ) : Type 0 where
-  at : (k : ℕ) → w < 64 → k < 64 → P (64 * w + k) → FirstWaiting P w
-  none : w ≡ 64 → ((k : ℕ) → k < 4096 → ¬ P k) → FirstWaiting P w
+pub data WordWith (P : ℕ → Type 0) (w : ℕ) : Type 0 where
+  at : (k : ℕ) → w < 64 → k < 64 → P (64 * w + k) → WordWith P w
+  none : w ≡ 64 → ((k : ℕ) → k < 4096 → ¬ P k) → WordWith P w
 
 -- From `set`, of which `gone` has been gone on from, it came to `more` and `after`: what is new was reached, and all that is new in `after`
 -- has been gone on from.

@@ -11,13 +11,13 @@ ghost use lib.Dec.{T};
 ghost use lib.ListN.{getD};
 ghost use Rattle.tree.specs.Tree.{Child, Next};
 ghost use Rattle.roll.specs.Roll.{nodes, Roll};
-ghost use Rattle.links.specs.Links.{Link, Linked, Siblings};
+ghost use Rattle.links.specs.Links.{Link, Linked, next, Siblings};
 ghost use Rattle.steps.specs.Axis.{Along, AlongAny};
 ghost use Rattle.steps.specs.Added.{Added, FirstChild, Leads};
 
 // A link as a number.
-fn link_at(links: &[u16; 4096], i: usize) -> usize
-    requires { ⌜ i < 4096 ⌝ }
+fn link_at(links: &[u16; 8192], i: usize) -> usize
+    requires { ⌜ i < 8192 ⌝ }
     ensures { λ r. ⌜ r ≡ getD (now (links .entry)) i 65535 ⌝ }
 {
     let all: &[u16] = links;
@@ -41,15 +41,15 @@ fn first_child(roll: &[u8], i: usize) -> usize
 }
 
 // Adds the children of i, from the first one on from sibling to sibling.
-fn add_children(roll: &[u8], next: &[u16; 4096], i: usize, out: &mut [u64; 64])
-    requires { ⌜ Roll (now roll) × Linked (Next (nodes (now roll))) (now next) ⌝ }
+fn add_children(roll: &[u8], links: &[u16; 8192], i: usize, out: &mut [u64; 64])
+    requires { ⌜ Roll (now roll) × Linked (Next (nodes (now roll))) (next (now links)) ⌝ }
     requires { ⌜ i < 4096 ⌝ }
     ensures { λ _. ⌜ Added (Child (nodes (now (roll .entry))) i) (now (out .entry)) (now (out .exit)) ⌝ }
 {
     let mut j = first_child(roll, i);
     while j < 4096 {
         add(out, j);
-        j = link_at(next, j);
+        j = link_at(links, j);
     }
 }
 
@@ -65,9 +65,9 @@ fn add_parent(roll: &[u8], i: usize, out: &mut [u64; 64])
     }
 }
 
-// Adds where the link of i leads.
-fn add_linked(links: &[u16; 4096], i: usize, out: &mut [u64; 64])
-    requires { ⌜ i < 4096 ⌝ }
+// Adds where the i-th link leads.
+fn add_linked(links: &[u16; 8192], i: usize, out: &mut [u64; 64])
+    requires { ⌜ i < 8192 ⌝ }
     ensures { λ _. ⌜ Added (Leads (now (links .entry)) i) (now (out .entry)) (now (out .exit)) ⌝ }
 {
     let j = link_at(links, i);
@@ -77,60 +77,45 @@ fn add_linked(links: &[u16; 4096], i: usize, out: &mut [u64; 64])
 }
 
 // Adds what a step along the axis reaches from i.
-fn add_reached(
-    roll: &[u8],
-    next: &[u16; 4096],
-    previous: &[u16; 4096],
-    axis: Axis,
-    i: usize,
-    out: &mut [u64; 64],
-)
-    requires { ⌜ Roll (now roll) × Siblings (nodes (now roll)) (now next) (now previous) ⌝ }
+fn add_reached(roll: &[u8], links: &[u16; 8192], axis: Axis, i: usize, out: &mut [u64; 64])
+    requires { ⌜ Roll (now roll) × Siblings (nodes (now roll)) (now links) ⌝ }
     requires { ⌜ i < 4096 ⌝ }
     ensures { λ _. ⌜ Added (Along (nodes (now (roll .entry))) axis i) (now (out .entry)) (now (out .exit)) ⌝ }
 {
     match axis {
-        Axis::Child => add_children(roll, next, i, out),
+        Axis::Child => add_children(roll, links, i, out),
         Axis::Parent => add_parent(roll, i, out),
-        Axis::Next => add_linked(next, i, out),
-        Axis::Previous => add_linked(previous, i, out),
+        Axis::Next => add_linked(links, i, out),
+        Axis::Previous => add_linked(links, 4096 + i, out),
     }
 }
 
 // Adds what a step along the axis reaches from i, if the axis is taken.
 fn add_taken(
     roll: &[u8],
-    next: &[u16; 4096],
-    previous: &[u16; 4096],
+    links: &[u16; 8192],
     axis: Axis,
     taken: bool,
     i: usize,
     out: &mut [u64; 64],
 )
-    requires { ⌜ Roll (now roll) × Siblings (nodes (now roll)) (now next) (now previous) ⌝ }
+    requires { ⌜ Roll (now roll) × Siblings (nodes (now roll)) (now links) ⌝ }
     requires { ⌜ i < 4096 ⌝ }
     ensures { λ _. ⌜ Added (λ j. T taken × Along (nodes (now (roll .entry))) axis i j) (now (out .entry)) (now (out .exit)) ⌝ }
 {
     if taken {
-        add_reached(roll, next, previous, axis, i, out);
+        add_reached(roll, links, axis, i, out);
     }
 }
 
 // Adds what a step along one of the axes reaches from i.
-pub(crate) fn add_along(
-    roll: &[u8],
-    next: &[u16; 4096],
-    previous: &[u16; 4096],
-    axes: Axes,
-    i: usize,
-    out: &mut [u64; 64],
-)
-    requires { ⌜ Roll (now roll) × Siblings (nodes (now roll)) (now next) (now previous) ⌝ }
+pub(crate) fn add_along(roll: &[u8], links: &[u16; 8192], axes: Axes, i: usize, out: &mut [u64; 64])
+    requires { ⌜ Roll (now roll) × Siblings (nodes (now roll)) (now links) ⌝ }
     requires { ⌜ i < 4096 ⌝ }
     ensures { λ _. ⌜ Added (AlongAny (nodes (now (roll .entry))) axes i) (now (out .entry)) (now (out .exit)) ⌝ }
 {
-    add_taken(roll, next, previous, Axis::Child, axes.child, i, out);
-    add_taken(roll, next, previous, Axis::Parent, axes.parent, i, out);
-    add_taken(roll, next, previous, Axis::Next, axes.next, i, out);
-    add_taken(roll, next, previous, Axis::Previous, axes.previous, i, out);
+    add_taken(roll, links, Axis::Child, axes.child, i, out);
+    add_taken(roll, links, Axis::Parent, axes.parent, i, out);
+    add_taken(roll, links, Axis::Next, axes.next, i, out);
+    add_taken(roll, links, Axis::Previous, axes.previous, i, out);
 }

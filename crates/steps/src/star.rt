@@ -8,7 +8,7 @@ ghost use Rattle.roll.specs.Roll.{nodes, Roll};
 ghost use Rattle.query.specs.Meaning.{Star};
 ghost use Rattle.sets.specs.Sets.{Image};
 ghost use Rattle.links.specs.Links.{Siblings};
-ghost use Rattle.steps.specs.Star.{Waits, Digits, FirstWaiting, StepFrom, GoneOn};
+ghost use Rattle.steps.specs.Star.{Waits, Digits, WordWith, StepFrom, GoneOn};
 
 // The digits of word w whose nodes wait: they are in the set and may be gone on from, and that has not been done.
 fn waiting(set: &[u64; 64], sources: &[u64; 64], gone: &[u64; 64], w: usize) -> u64
@@ -23,7 +23,7 @@ fn waiting(set: &[u64; 64], sources: &[u64; 64], gone: &[u64; 64], w: usize) -> 
 
 // The first word with a node that waits, or 64.
 fn first_waiting(set: &[u64; 64], sources: &[u64; 64], gone: &[u64; 64]) -> usize
-    ensures { λ r. ⌜ FirstWaiting (Waits (now (set .entry)) (now (sources .entry)) (now (gone .entry))) r ⌝ }
+    ensures { λ r. ⌜ WordWith (Waits (now (set .entry)) (now (sources .entry)) (now (gone .entry))) r ⌝ }
 {
     let mut w = 0;
     while w < 64 {
@@ -38,15 +38,14 @@ fn first_waiting(set: &[u64; 64], sources: &[u64; 64], gone: &[u64; 64]) -> usiz
 // Goes on from the nodes of word w that wait, until there are none.
 fn go_on(
     roll: &[u8],
-    next: &[u16; 4096],
-    previous: &[u16; 4096],
+    links: &[u16; 8192],
     axes: Axes,
     sources: &[u64; 64],
     w: usize,
     set: &mut [u64; 64],
     gone: &mut [u64; 64],
 )
-    requires { ⌜ Roll (now roll) × Siblings (nodes (now roll)) (now next) (now previous) ⌝ }
+    requires { ⌜ Roll (now roll) × Siblings (nodes (now roll)) (now links) ⌝ }
     requires { ⌜ w < 64 ⌝ }
     ensures { λ _. ⌜ GoneOn (StepFrom (nodes (now (roll .entry))) axes (now (sources .entry))) (now (set .entry)) (now (gone .entry)) (now (set .exit)) (now (gone .exit)) ⌝ }
     ensures { λ _. ⌜ ((k : ℕ) → k < 64 → ¬ Waits (now (set .exit)) (now (sources .entry)) (now (gone .exit)) (64 * w + k)) ⌝ }
@@ -55,7 +54,7 @@ fn go_on(
     while rest != 0 {
         let i = 64 * w + u64::trailing_zeros(rest) as usize;
         add(gone, i);
-        add_along(roll, next, previous, axes, i, set);
+        add_along(roll, links, axes, i, set);
         rest = waiting(set, sources, gone, w);
     }
 }
@@ -63,20 +62,19 @@ fn go_on(
 // What steps along the axes, each from one of the sources, reach from the members of a set, zero or more of them.
 pub fn closure(
     roll: &[u8],
-    next: &[u16; 4096],
-    previous: &[u16; 4096],
+    links: &[u16; 8192],
     axes: Axes,
     sources: [u64; 64],
     from: [u64; 64],
 ) -> [u64; 64]
-    requires { ⌜ Roll (now roll) × Siblings (nodes (now roll)) (now next) (now previous) ⌝ }
+    requires { ⌜ Roll (now roll) × Siblings (nodes (now roll)) (now links) ⌝ }
     ensures { λ r. ⌜ Image (Star (StepFrom (nodes (now (roll .entry))) axes sources)) from r ⌝ }
 {
     let mut set = from;
     let mut gone = empty();
     let mut w = first_waiting(&set, &sources, &gone);
     while w < 64 {
-        go_on(roll, next, previous, axes, &sources, w, &mut set, &mut gone);
+        go_on(roll, links, axes, &sources, w, &mut set, &mut gone);
         w = first_waiting(&set, &sources, &gone);
     }
     set

@@ -32,12 +32,11 @@ fn answer_record(
     roll: &[u8],
     annotation: &[u8],
     filters: &[u8],
-    next: &[u16; 4096],
-    previous: &[u16; 4096],
+    links: &[u16; 8192],
     r: usize,
     answers: &mut [u64; 2048],
 )
-    requires { ⌜ Grounds (now roll) (now filters) (now next) (now previous) × Annotated (now annotation) (now filters) ⌝ }
+    requires { ⌜ Grounds (now roll) (now filters) (now links) × Annotated (now annotation) (now filters) ⌝ }
     requires { ⌜ r < length (records (now annotation)) ⌝ }
     requires { ⌜ AnswersTo (now roll) (now annotation) (now filters) r (now answers) ⌝ }
     ensures { λ _. ⌜ AnswersTo (now (roll .entry)) (now (annotation .entry)) (now (filters .entry)) (r + 1) (now (answers .exit)) ⌝ }
@@ -48,8 +47,7 @@ fn answer_record(
         let none = empty();
         let held = narrow(
             roll,
-            next,
-            previous,
+            links,
             filters,
             entries_of(filters),
             &none,
@@ -65,17 +63,16 @@ pub(crate) fn answer(
     roll: &[u8],
     annotation: &[u8],
     filters: &[u8],
-    next: &[u16; 4096],
-    previous: &[u16; 4096],
+    links: &[u16; 8192],
 ) -> [u64; 2048]
-    requires { ⌜ Grounds (now roll) (now filters) (now next) (now previous) × Annotated (now annotation) (now filters) ⌝ }
+    requires { ⌜ Grounds (now roll) (now filters) (now links) × Annotated (now annotation) (now filters) ⌝ }
     ensures { λ r. ⌜ Answered (now (roll .entry)) (now (annotation .entry)) (now (filters .entry)) r ⌝ }
 {
     let n = annotation::count(annotation);
     let mut answers = [0u64; 2048];
     let mut r = 0;
     while r < n {
-        answer_record(roll, annotation, filters, next, previous, r, &mut answers);
+        answer_record(roll, annotation, filters, links, r, &mut answers);
         r += 1;
     }
     answers

@@ -18,10 +18,9 @@ pub fn visible_nodes(roll: &[u8], annotation: &[u8], filters: &[u8]) -> [u64; 64
     requires { ⌜ Roll (now roll) × Annotated (now annotation) (now filters) ⌝ }
     ensures { λ r. ⌜ Holds (Seen (now (roll .entry)) (now (annotation .entry)) (now (filters .entry))) r ⌝ }
 {
-    let mut next = [NONE; 4096];
-    let mut previous = [NONE; 4096];
-    link(roll, &mut next, &mut previous);
-    let answers = answer(roll, annotation, filters, &next, &previous);
+    let mut links = [NONE; 8192];
+    link(roll, &mut links);
+    let answers = answer(roll, annotation, filters, &links);
     let index = index_of(annotation);
     shown(roll, &index, &answers)
 }

@@ -8,7 +8,7 @@ use Rattle.answer.proofs.reached.Tie as tie
 
 -- the function's entry, from where the entries are counted
 abbrev began : tie.After-count → tie.Start
-began c = c .before .before .before .before .before .before .before .before .before .before .before
+began c = c .before .before .before .before .before .before .before .before .before
 
 link-requires : tie.Need-link-requires
 link-requires c κs = search needs
@@ -18,7 +18,7 @@ empty-requires c κs = search needs
 
 add-requires : tie.Need-add-requires
 add-requires c κs =
-    let start = c .before .before .before .before .before .before .before in
+    let start = c .before .before .before .before .before .before in
     omega (arith, start .pre .1 .0, roll-most (start .pre .0 .0))
 
 count-requires : tie.Need-count-requires
@@ -29,7 +29,7 @@ sub-image c = omega (arith, c .count .ensures, some-entry (began c .pre .0 .1))
 
 image-requires : tie.Need-image-requires
 image-requires c κs =
-    let added = c .before .before .before in
+    let added = c .before .before in
     let begun = began c .pre in (
       record { grounds = query-grounds (begun .0 .1) (begun .0 .0) (added .before .before .before .link .ensures); answer = begun .1 .1 },
       query-asked (begun .0 .1) (added .before .before .empty .ensures) (added .add .ensures) (c .count .ensures) (begun .1 .0),
@@ -38,7 +38,7 @@ image-requires c κs =
 returns : tie.Need-returns
 returns c =
     let counted = c .before in
-    let added = counted .before .before .before in
+    let added = counted .before .before in
     query-reached (began counted .pre .0 .1) (added .before .before .empty .ensures) (added .add .ensures) _ _ (counted .count .ensures) (c .image .ensures)
 
 pub reached-spec : {M : Type 1} → statement M

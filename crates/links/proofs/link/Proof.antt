@@ -16,16 +16,16 @@ use Rattle.links.proofs.link.Statement.{statement}
 use Rattle.links.proofs.link.Tie as tie
 
 abbrev Inv-loop : tie.InvT-loop
-Inv-loop roll next₀ previous₀ n j₀ next previous j = (j ≤ n) × SiblingsTo (nodes roll) j next previous
+Inv-loop roll links₀ n j₀ links j = (j ≤ n) × SiblingsTo (nodes roll) j links
 
 abbrev μ-loop : tie.MeasureT-loop
-μ-loop roll next₀ previous₀ n j₀ next previous j = n - j
+μ-loop roll links₀ n j₀ links j = n - j
 
 count-requires : tie.Need-count-requires Inv-loop μ-loop
 count-requires c κs = search needs
 
 loop-holds : tie.Need-loop-holds Inv-loop μ-loop
-loop-holds c = let s = c .before .before in (omega arith, siblings-none (s .pre .1 .0) (s .pre .1 .1))
+loop-holds c = let s = c .before .before in (omega arith, siblings-none (s .pre .1))
 
 previous-of-requires : tie.Need-previous-of-requires Inv-loop μ-loop
 previous-of-requires c κs = search needs
@@ -47,23 +47,26 @@ low c =
     let next = told (c .before .before) (c .before2 .given .1) in
     omega (arith, next .order, next .right .node)
 
-cast-previous : tie.Need-cast-previous Inv-loop μ-loop
-cast-previous c = omega (arith, low (c .before))
+cast-links : tie.Need-cast-links Inv-loop μ-loop
+cast-links c = omega (arith, low (c .before))
 
-mul-previous : tie.Need-mul-previous Inv-loop μ-loop
-mul-previous c = omega (arith, low (c .before))
+add-links : tie.Need-add-links Inv-loop μ-loop
+add-links c = omega (arith, low (c .before))
 
-element-write-previous : tie.Need-element-write-previous Inv-loop μ-loop
-element-write-previous c = omega (arith, low (c .before))
+mul-links : tie.Need-mul-links Inv-loop μ-loop
+mul-links c = omega (arith, low (c .before))
 
-cast-next : tie.Need-cast-next Inv-loop μ-loop
-cast-next c = omega (arith, low (c .before))
+element-write-links : tie.Need-element-write-links Inv-loop μ-loop
+element-write-links c = omega (arith, low (c .before))
 
-mul-next : tie.Need-mul-next Inv-loop μ-loop
-mul-next c = omega (arith, low (c .before))
+cast-links-2 : tie.Need-cast-links-2 Inv-loop μ-loop
+cast-links-2 c = omega (arith, low (c .before))
 
-element-write-next : tie.Need-element-write-next Inv-loop μ-loop
-element-write-next c = omega (arith, low (c .before))
+mul-links-2 : tie.Need-mul-links-2 Inv-loop μ-loop
+mul-links-2 c = omega (arith, low (c .before))
+
+element-write-links-2 : tie.Need-element-write-links-2 Inv-loop μ-loop
+element-write-links-2 c = omega (arith, low (c .before))
 
 enum-told : tie.Need-enum-told Inv-loop μ-loop
 enum-told c = search needs
@@ -81,8 +84,8 @@ loop-again c =
     let most = roll-most (turn .before .before .before .pre .0) in (
       omega arith,
       ⊎-elim
-          (λ w. rw (w .3, w .4) (siblings-more links most (told (c .before) (w .1 .given .1))))
-          (λ w. rw (w .2, w .3) (siblings-same links (told (c .before) (w .1 .given .1))))
+          (λ w. rw (w .3) (siblings-more links most (told (c .before) (w .1 .given .1))))
+          (λ w. rw (w .2) (siblings-same links (told (c .before) (w .1 .given .1))))
           (c .match .came),
     )
 
@@ -101,12 +104,13 @@ link-spec =
     loop-holds
     previous-of-requires
     enum-known-before
-    cast-previous
-    mul-previous
-    element-write-previous
-    cast-next
-    mul-next
-    element-write-next
+    cast-links
+    add-links
+    mul-links
+    element-write-links
+    cast-links-2
+    mul-links-2
+    element-write-links-2
     enum-told
     add-j
     loop-less

@@ -33,18 +33,18 @@ use Rattle.evaluator.proofs.by_rounds.Kinds as by-rounds-kinds
 use Rattle.evaluator.proofs.image.Kinds as image-kinds
 
 -- what it is given, and what its callees ask and say
-abbrev own : ℕ → In 5 by-rounds-kinds.ps
+abbrev own : ℕ → In 4 by-rounds-kinds.ps
 own = calls.given by-rounds-kinds.ps μ-by-rounds by-rounds.Pre
 
 abbrev claims : ℕ → lts.Claims
 claims t = (empty.Asked, empty.Learnt, is-empty.Asked, is-empty.Learnt, union.Asked, union.Learnt, calls.asked image-kinds.ps μ-image image.Pre t, image.Post, difference.Asked, difference.Learnt)
 
 abbrev Inv-loop : lts.InvT-loop
-Inv-loop roll next previous table known holding e course all₀ fresh₀ all fresh =
+Inv-loop roll links table known holding e course all₀ fresh₀ all fresh =
     Rounds (length (nodes roll)) (reach (nodes roll) (facing course (pathAt (entries table) e))) fresh₀ all fresh
 
 abbrev μ-loop : lts.MeasureT-loop
-μ-loop roll next previous table known holding e course all₀ fresh₀ all fresh = 4096 - sizeOf all
+μ-loop roll links table known holding e course all₀ fresh₀ all fresh = 4096 - sizeOf all
 
 module _ (t : ℕ) where
   -- at the loop's head: what the function was given
@@ -52,7 +52,7 @@ module _ (t : ℕ) where
     abbrev start : lts.Start (claims t) (own t) by-rounds.Post Inv-loop μ-loop
     start = c .before .before .before .before
 
-    given : Knowing (now (start .args .roll)) (now (start .args .table)) (now (start .args .next)) (now (start .args .prior)) (start .args .known) (now (start .args .held))
+    given : Knowing (now (start .args .roll)) (now (start .args .table)) (now (start .args .links)) (start .args .known) (now (start .args .held))
     given = start .pre .1 .0
 
     asked : Asked (now (start .args .roll)) (now (start .args .table)) path (start .args .e) (start .args .from)

@@ -47,7 +47,7 @@ use Rattle.evaluator.proofs.narrow.Kinds as narrow-kinds
 use Rattle.evaluator.proofs.star.Kinds as star-kinds
 
 -- what it is given, and what its callees ask and say
-abbrev own : ℕ → In 5 image-kinds.ps
+abbrev own : ℕ → In 4 image-kinds.ps
 own = calls.given image-kinds.ps μ-image image.Pre
 
 abbrev claims : ℕ → lts.Claims
@@ -71,7 +71,7 @@ module _ (t : ℕ) where
     abbrev tree : Tree
     tree = nodes (now (start .args .roll))
 
-    given : Knowing (now (start .args .roll)) (now (start .args .table)) (now (start .args .next)) (now (start .args .prior)) (start .args .known) (now (start .args .held))
+    given : Knowing (now (start .args .roll)) (now (start .args .table)) (now (start .args .links)) (start .args .known) (now (start .args .held))
     given = start .pre .1 .0
 
     inside : Inside (length tree) (start .args .from)
@@ -86,7 +86,7 @@ module _ (t : ℕ) where
     -- an operand can be asked of a set of nodes in a call of its own
     abbrev Callable : Sort → ℕ → List ℕ → Type 0
     Callable o x set =
-        (4 * x < t) × (Knowing (now (start .args .roll)) (now (start .args .table)) (now (start .args .next)) (now (start .args .prior)) (start .args .known) (now (start .args .held))
+        (4 * x < t) × (Knowing (now (start .args .roll)) (now (start .args .table)) (now (start .args .links)) (start .args .known) (now (start .args .held))
         × Asked (now (start .args .roll)) (now (start .args .table)) o x set)
 
     ask : {o : Sort} {x : ℕ} {set : List ℕ} → OperandField (entries (now (start .args .table))) (start .args .e) (of o) x → Inside (length tree) set → Callable o x set
@@ -106,7 +106,7 @@ module _ (t : ℕ) where
   only-requires c κs = search needs
 
   step-requires : lts.Need-step-requires (claims t) (own t) image.Post
-  step-requires c κs = let g = given (c .before .before .before .before .before .before) in (g .grounds .roll-right, g .grounds .links)
+  step-requires c κs = let g = given (c .before .before .before .before .before .before) in (g .grounds .roll-right, g .grounds .linked)
 
   returns-7 : lts.Need-returns-7 (claims t) (own t) image.Post
   returns-7 c =

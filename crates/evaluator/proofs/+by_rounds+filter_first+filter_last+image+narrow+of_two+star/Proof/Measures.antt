@@ -10,23 +10,23 @@ use Rattle.evaluator.proofs.narrow.Kinds as narrow-kinds
 use Rattle.evaluator.proofs.of_two.Kinds as of-two-kinds
 use Rattle.evaluator.proofs.star.Kinds as star-kinds
 
-abbrev pub μ-by-rounds : Measures 5 by-rounds-kinds.ps ℕ
-μ-by-rounds κs a = 4 * a .1 .1 .1 .1 .1 .1 .0 + 1
+abbrev pub μ-by-rounds : Measures 4 by-rounds-kinds.ps ℕ
+μ-by-rounds κs a = 4 * a .1 .1 .1 .1 .1 .0 + 1
 
-abbrev pub μ-filter-first : Measures 5 filter-first-kinds.ps ℕ
-μ-filter-first κs a = 4 * a .1 .1 .1 .1 .1 .1 .0 + 1
+abbrev pub μ-filter-first : Measures 4 filter-first-kinds.ps ℕ
+μ-filter-first κs a = 4 * a .1 .1 .1 .1 .1 .0 + 1
 
-abbrev pub μ-filter-last : Measures 5 filter-last-kinds.ps ℕ
-μ-filter-last κs a = 4 * a .1 .1 .1 .1 .1 .1 .0 + 1
+abbrev pub μ-filter-last : Measures 4 filter-last-kinds.ps ℕ
+μ-filter-last κs a = 4 * a .1 .1 .1 .1 .1 .0 + 1
 
-abbrev pub μ-image : Measures 5 image-kinds.ps ℕ
-μ-image κs a = 4 * a .1 .1 .1 .1 .1 .1 .0
+abbrev pub μ-image : Measures 4 image-kinds.ps ℕ
+μ-image κs a = 4 * a .1 .1 .1 .1 .1 .0
 
-abbrev pub μ-narrow : Measures 5 narrow-kinds.ps ℕ
-μ-narrow κs a = 4 * a .1 .1 .1 .1 .1 .1 .0
+abbrev pub μ-narrow : Measures 4 narrow-kinds.ps ℕ
+μ-narrow κs a = 4 * a .1 .1 .1 .1 .1 .0
 
-abbrev pub μ-of-two : Measures 5 of-two-kinds.ps ℕ
-μ-of-two κs a = 4 * a .1 .1 .1 .1 .1 .1 .0 + 2
+abbrev pub μ-of-two : Measures 4 of-two-kinds.ps ℕ
+μ-of-two κs a = 4 * a .1 .1 .1 .1 .1 .0 + 2
 
-abbrev pub μ-star : Measures 5 star-kinds.ps ℕ
-μ-star κs a = 4 * a .1 .1 .1 .1 .1 .1 .0 + 3
+abbrev pub μ-star : Measures 4 star-kinds.ps ℕ
+μ-star κs a = 4 * a .1 .1 .1 .1 .1 .0 + 3

@@ -40,7 +40,7 @@ use Rattle.evaluator.proofs.image.Kinds as image-kinds
 use Rattle.evaluator.proofs.narrow.Kinds as narrow-kinds
 
 -- what it is given, and what its callees ask and say
-abbrev own : ℕ → In 5 narrow-kinds.ps
+abbrev own : ℕ → In 4 narrow-kinds.ps
 own = calls.given narrow-kinds.ps μ-narrow narrow.Pre
 
 abbrev claims : ℕ → lts.Claims
@@ -75,7 +75,7 @@ module _ (t : ℕ) where
     abbrev tree : Tree
     tree = nodes (now (start .args .roll))
 
-    given : Knowing (now (start .args .roll)) (now (start .args .table)) (now (start .args .next)) (now (start .args .prior)) (start .args .known) (now (start .args .held))
+    given : Knowing (now (start .args .roll)) (now (start .args .table)) (now (start .args .links)) (start .args .known) (now (start .args .held))
     given = start .pre .1 .0
 
     inside : Inside (length tree) (start .args .from)
@@ -91,7 +91,7 @@ module _ (t : ℕ) where
     stays p = walk-stays tree (roll-in-order (given .grounds .roll-right)) p
 
     ask : {o : Sort} {x : ℕ} {set : List ℕ} → OperandField (entries (now (start .args .table))) (start .args .e) (of o) x → Inside (length tree) set
-        → (4 * x < t) × (Knowing (now (start .args .roll)) (now (start .args .table)) (now (start .args .next)) (now (start .args .prior)) (start .args .known) (now (start .args .held))
+        → (4 * x < t) × (Knowing (now (start .args .roll)) (now (start .args .table)) (now (start .args .links)) (start .args .known) (now (start .args .held))
         × Asked (now (start .args .roll)) (now (start .args .table)) o x set)
     ask = operand-below given (read .entry) measured
 

@@ -36,7 +36,7 @@ use Rattle.evaluator.proofs.filter_last.Kinds as filter-last-kinds
 use Rattle.evaluator.proofs.of_two.Kinds as of-two-kinds
 
 -- what it is given, and what its callees ask and say
-abbrev own : ℕ → In 5 of-two-kinds.ps
+abbrev own : ℕ → In 4 of-two-kinds.ps
 own = calls.given of-two-kinds.ps μ-of-two of-two.Pre
 
 abbrev claims : ℕ → lts.Claims
@@ -63,7 +63,7 @@ module _ (t : ℕ) where
     abbrev es : Entries
     es = entries (now (start .args .table))
 
-    given : Knowing (now (start .args .roll)) (now (start .args .table)) (now (start .args .next)) (now (start .args .prior)) (start .args .known) (now (start .args .held))
+    given : Knowing (now (start .args .roll)) (now (start .args .table)) (now (start .args .links)) (start .args .known) (now (start .args .held))
     given = start .pre .1 .0 .0
 
     asked : Asked (now (start .args .roll)) (now (start .args .table)) path (start .args .e) (start .args .from)
@@ -81,7 +81,7 @@ module _ (t : ℕ) where
     -- a part that is a filter is asked in a call of its own
     filtered : {x : ℕ} → OperandField es (start .args .e) (of path) x → entryAt es x .kind ≡ 6
         → (4 * x + 1 < t)
-        × ((Knowing (now (start .args .roll)) (now (start .args .table)) (now (start .args .next)) (now (start .args .prior)) (start .args .known) (now (start .args .held))
+        × ((Knowing (now (start .args .roll)) (now (start .args .table)) (now (start .args .links)) (start .args .known) (now (start .args .held))
         × Asked (now (start .args .roll)) (now (start .args .table)) path x (start .args .from))
         × Still (facing (start .args .course) (pathAt es x)))
     filtered f is =

@@ -30,7 +30,7 @@ use Rattle.evaluator.proofs.of_two.Kinds as of-two-kinds
 use Rattle.evaluator.proofs.star.Kinds as star-kinds
 
 -- what it is given, and what its callees ask and say
-abbrev own : ℕ → In 5 star-kinds.ps
+abbrev own : ℕ → In 4 star-kinds.ps
 own = calls.given star-kinds.ps μ-star star.Pre
 
 abbrev claims : ℕ → lts.Claims
@@ -48,7 +48,7 @@ module _ (t : ℕ) where
     abbrev tree : Tree
     tree = nodes (now (start .args .roll))
 
-    given : Knowing (now (start .args .roll)) (now (start .args .table)) (now (start .args .next)) (now (start .args .prior)) (start .args .known) (now (start .args .held))
+    given : Knowing (now (start .args .roll)) (now (start .args .table)) (now (start .args .links)) (start .args .known) (now (start .args .held))
     given = start .pre .1 .0
 
     asked : Asked (now (start .args .roll)) (now (start .args .table)) path (start .args .e) (start .args .from)
@@ -89,7 +89,7 @@ module _ (t : ℕ) where
   below-requires c κs = search needs
 
   closure-requires : lts.Need-closure-requires (claims t) (own t) star.Post
-  closure-requires c κs = let g = given (c .before .before .before .before .before .before) in (g .grounds .roll-right, g .grounds .links)
+  closure-requires c κs = let g = given (c .before .before .before .before .before .before) in (g .grounds .roll-right, g .grounds .linked)
 
   returns-3 : lts.Need-returns-3 (claims t) (own t) star.Post
   unfolding reach

@@ -12,11 +12,11 @@ use Rattle.steps.proofs.along.add_word.Statement.{statement}
 use Rattle.steps.proofs.along.add_word.Tie as tie
 
 abbrev Inv-loop : tie.InvT-loop
-Inv-loop roll next previous axes w word out₀ rest₀ out rest =
+Inv-loop roll links axes w word out₀ rest₀ out rest =
     SoFar (λ k. AlongAny (nodes roll) axes (64 * w + k)) (In out₀) word (In out) rest
 
 abbrev μ-loop : tie.MeasureT-loop
-μ-loop roll next previous axes w word out₀ rest₀ out rest = rest
+μ-loop roll links axes w word out₀ rest₀ out rest = rest
 
 loop-holds : tie.Need-loop-holds Inv-loop μ-loop
 loop-holds c = so-far (c .before .fits .word .fits)

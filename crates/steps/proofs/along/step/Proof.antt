@@ -13,10 +13,10 @@ use Rattle.steps.proofs.along.step.Statement.{statement}
 use Rattle.steps.proofs.along.step.Tie as tie
 
 abbrev Inv-loop : tie.InvT-loop
-Inv-loop roll next previous axes from out₀ w₀ out w = (w ≤ 64) × Holds (FromBelow (AlongAny (nodes roll) axes) from (64 * w)) out
+Inv-loop roll links axes from out₀ w₀ out w = (w ≤ 64) × Holds (FromBelow (AlongAny (nodes roll) axes) from (64 * w)) out
 
 abbrev μ-loop : tie.MeasureT-loop
-μ-loop roll next previous axes from out₀ w₀ out w = 64 - w
+μ-loop roll links axes from out₀ w₀ out w = 64 - w
 
 loop-holds : tie.Need-loop-holds Inv-loop μ-loop
 loop-holds c =

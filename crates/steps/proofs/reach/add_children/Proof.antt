@@ -14,11 +14,11 @@ use Rattle.steps.proofs.reach.add_children.Statement.{statement}
 use Rattle.steps.proofs.reach.add_children.Tie as tie
 
 abbrev Inv-loop : tie.InvT-loop
-Inv-loop roll next i out₀ j₀ out j =
+Inv-loop roll links i out₀ j₀ out j =
     let t = nodes roll in (j < 4096 → Child t i j) × Added (λ k. Child t i k × (k < j)) out₀ out
 
 abbrev μ-loop : tie.MeasureT-loop
-μ-loop roll next i out₀ j₀ out j = 65536 - j
+μ-loop roll links i out₀ j₀ out j = 65536 - j
 
 first-child-requires : tie.Need-first-child-requires Inv-loop μ-loop
 first-child-requires c κs = (c .before .pre .0 .0, c .before .pre .1)

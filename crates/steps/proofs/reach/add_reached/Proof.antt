@@ -30,6 +30,9 @@ add-linked-requires c κs = search needs
 enum-told-4 : tie.Need-enum-told-4
 enum-told-4 c = search needs
 
+add-add-linked : tie.Need-add-add-linked
+add-add-linked c = search needs
+
 add-linked-requires-2 : tie.Need-add-linked-requires-2
 add-linked-requires-2 c κs = search needs
 
@@ -64,6 +67,7 @@ add-reached-spec =
     enum-told-3
     add-linked-requires
     enum-told-4
+    add-add-linked
     add-linked-requires-2
     returns
     returns-2

@@ -23,7 +23,7 @@ returns : tie.Need-returns
 returns c =
     let links : List ℕ = now (c .before .before .args .links) in
     let i = c .before .before .args .i in
-    let size : length links ≡ 4096 = search needs in
+    let size : length links ≡ 8192 = search needs in
     let v = getD links i 0 in
     sym (getD-set-same links i v 65535 (omega arith)) ∙ ap (λ (l : List ℕ). getD l i 65535) (set-getD links i 0)
 

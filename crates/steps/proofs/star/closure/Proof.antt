@@ -8,17 +8,17 @@ use Rattle.roll.specs.Roll.{nodes}
 use Rattle.sets.proofs.Size.{sizeOf, size-most}
 use Rattle.roll.proofs.Deciding.{roll-in-order, roll-most}
 use Rattle.steps.proofs.Axes.{any-node}
-use Rattle.steps.specs.Star.{Waits, FirstWaiting, StepFrom, GoneOn}
+use Rattle.steps.specs.Star.{Waits, WordWith, StepFrom, GoneOn}
 use Rattle.steps.proofs.Going.{not-gone, gone-further, all-gone, gone-word, none-waits}
 use Rattle.steps.proofs.star.closure.Statement.{statement}
 use Rattle.steps.proofs.star.closure.Tie as tie
 
 abbrev Inv-loop : tie.InvT-loop
-Inv-loop roll next previous axes sources set₀ gone₀ w₀ set gone w =
-    GoneOn (StepFrom (nodes roll) axes sources) set₀ gone₀ set gone × FirstWaiting (Waits set sources gone) w
+Inv-loop roll links axes sources set₀ gone₀ w₀ set gone w =
+    GoneOn (StepFrom (nodes roll) axes sources) set₀ gone₀ set gone × WordWith (Waits set sources gone) w
 
 abbrev μ-loop : tie.MeasureT-loop
-μ-loop roll next previous axes sources set₀ gone₀ w₀ set gone w = 4096 - sizeOf gone
+μ-loop roll links axes sources set₀ gone₀ w₀ set gone w = 4096 - sizeOf gone
 
 empty-requires : tie.Need-empty-requires Inv-loop μ-loop
 empty-requires c κs = search needs
@@ -40,7 +40,7 @@ loop-less c =
     let gone = c .before .before .before .before in
     let turn = gone .before .before .before .before in
     let more = gone-word (turn .loop-test .taken) (turn .before .loop .inv .1) (gone .go-on .ensures .0) (gone .go-on .ensures .1) in
-    omega (arith, more, size-most (gone .go-on .last .1 .1 .1 .1 .1 .1 .1 .0))
+    omega (arith, more, size-most (gone .go-on .last .1 .1 .1 .1 .1 .1 .0))
 
 loop-again : tie.Need-loop-again Inv-loop μ-loop
 loop-again c =

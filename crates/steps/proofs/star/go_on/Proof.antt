@@ -16,11 +16,11 @@ use Rattle.steps.proofs.star.go_on.Statement.{statement}
 use Rattle.steps.proofs.star.go_on.Tie as tie
 
 abbrev Inv-loop : tie.InvT-loop
-Inv-loop roll next previous axes sources w set₀ gone₀ rest₀ set gone rest =
+Inv-loop roll links axes sources w set₀ gone₀ rest₀ set gone rest =
     GoneOn (StepFrom (nodes roll) axes sources) set₀ gone₀ set gone × Digits (Waits set sources gone) w rest
 
 abbrev μ-loop : tie.MeasureT-loop
-μ-loop roll next previous axes sources w set₀ gone₀ rest₀ set gone rest = 4096 - sizeOf gone
+μ-loop roll links axes sources w set₀ gone₀ rest₀ set gone rest = 4096 - sizeOf gone
 
 waiting-requires : tie.Need-waiting-requires Inv-loop μ-loop
 waiting-requires c κs = search needs

@@ -13,10 +13,10 @@ use Rattle.visible.proofs.answers.answer.Statement.{statement}
 use Rattle.visible.proofs.answers.answer.Tie as tie
 
 abbrev Inv-loop : tie.InvT-loop
-Inv-loop roll annotation filters next previous n answers₀ r₀ answers r = (r ≤ n) × AnswersTo roll annotation filters r answers
+Inv-loop roll annotation filters links n answers₀ r₀ answers r = (r ≤ n) × AnswersTo roll annotation filters r answers
 
 abbrev μ-loop : tie.MeasureT-loop
-μ-loop roll annotation filters next previous n answers₀ r₀ answers r = n - r
+μ-loop roll annotation filters links n answers₀ r₀ answers r = n - r
 
 count-requires : tie.Need-count-requires Inv-loop μ-loop
 count-requires c κs = search needs
