@@ -9,7 +9,7 @@ use sets::add;
 use sets::bytes;
 use sets::count;
 use sets::empty;
-use tables::entry::count as entries_of;
+use tables::count as entries_of;
 ghost use mathlib.Core.Path.{_≡_};
 ghost use Prim.Native.Nat.{_≤_, _<_};
 ghost use lib.ListN.{length};

@@ -1,9 +1,9 @@
 // Filters that are told at once, so that all nodes can be asked for what a step costs.
-use tables::entry::entry_at;
-use tables::entry::kind_at;
-use tables::kinds::LEADS;
-use tables::kinds::NOT;
-use tables::kinds::STAY;
+use tables::LEADS;
+use tables::NOT;
+use tables::STAY;
+use tables::entry_at;
+use tables::kind_at;
 ghost use mathlib.Core.Path.{_≡_};
 ghost use lib.Dec.{T};
 ghost use Rattle.query.specs.Table.{entries, entryAt};

@@ -1,9 +1,9 @@
 // The three courses on which a path is walked.
 use steps::Axis;
 use steps::turned;
-use tables::kinds::CHILD;
-use tables::kinds::NEXT;
-use tables::kinds::PARENT;
+use tables::CHILD;
+use tables::NEXT;
+use tables::PARENT;
 ghost use mathlib.Core.Path.{_≡_};
 ghost use mathlib.Core.Logic.{_↔_};
 ghost use Prim.Native.Nat.{ℕ, _≤_};

@@ -22,7 +22,7 @@ use steps::closure;
 use steps::labelled;
 use steps::only;
 use steps::step;
-use tables::entry::entry_at;
+use tables::entry_at;
 use ways::DEEP;
 use ways::Way;
 use ways::way_of;

@@ -5,7 +5,7 @@ use crate::course::way;
 use steps::Axes;
 use steps::both;
 use steps::only;
-use tables::entry::entry_at;
+use tables::entry_at;
 ghost use Rattle.query.specs.Kind.{path};
 ghost use Rattle.query.specs.Syntax as syntax;
 ghost use Rattle.query.specs.Syntax.{Path};

@@ -9,7 +9,7 @@ use reply::TABLE_ROOM;
 use reply::TEXT_BYTES;
 use reply::refuse;
 use tables::check_query;
-use tokens::answer::Parsed;
+use tokens::Parsed;
 ghost use Prim.Native.Nat.{_*_, _≤_};
 ghost use lib.ListN.{length};
 ghost use Rattle.reply.specs.Reply.{said};

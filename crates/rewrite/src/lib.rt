@@ -1,10 +1,10 @@
 // Call 5: a curator's query is rewritten to one that does on the roll what hers does on the view. The lent room is written only once every
 // check has passed.
 use bytes::copy;
-use checks::annotation;
+use checks::count as records_of;
 use checks::ready_to_rewrite;
 use reply::Reply;
-use tables::entry::count;
+use tables::count;
 use writer::write_behind;
 ghost use mathlib.Core.Path.{_≡_};
 ghost use Prim.Native.Nat.{_*_, _≤_};
@@ -34,7 +34,7 @@ pub fn visible_entry(annotation: &[u8], filters: &[u8]) -> usize
     requires { ⌜ Annotated (now annotation) (now filters) ⌝ }
     ensures { λ r. ⌜ r ≡ visibleEntry (now (annotation .entry)) (now (filters .entry)) ⌝ }
 {
-    count(filters) + 9 * annotation::count(annotation) + 13
+    count(filters) + 9 * records_of(annotation) + 13
 }
 
 // "Rewrite; room 6,144 bytes. Takes annotation, filter table and curator's query."

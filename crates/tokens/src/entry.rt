@@ -14,7 +14,7 @@ pub fn put(table: &mut [u8], count: usize, kind: u8, label: u8, left: usize, rig
     requires { ⌜ 6 * (count + 1) ≤ length (now table) ⌝ }
     ensures { λ _. ⌜ Added (now (table .entry)) count (one kind label left right) (now (table .exit)) ⌝ }
 {
-    tables::entry::put(table, count, kind, label, left, right);
+    tables::put(table, count, kind, label, left, right);
 }
 
 // Writes an entry without operands; the text is read up to `next`.

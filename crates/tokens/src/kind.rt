@@ -1,15 +1,15 @@
 // The kinds that are written for a text, and the bytes that stand for them there.
 use reading::Bracket;
 use reading::Chain;
-use tables::kinds::AND;
-use tables::kinds::CHILD;
-use tables::kinds::EITHER;
-use tables::kinds::NEXT;
-use tables::kinds::OR;
-use tables::kinds::PARENT;
-use tables::kinds::PREVIOUS;
-use tables::kinds::SELF;
-use tables::kinds::THEN;
+use tables::AND;
+use tables::CHILD;
+use tables::EITHER;
+use tables::NEXT;
+use tables::OR;
+use tables::PARENT;
+use tables::PREVIOUS;
+use tables::SELF;
+use tables::THEN;
 ghost use mathlib.Core.Path.{_≡_};
 ghost use Rattle.reading.proofs.Parts.{joining, closingByte};
 ghost use Rattle.tokens.specs.Reading.{outerChain, innerChain, joinedKind, AxisOf};

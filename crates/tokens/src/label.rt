@@ -1,7 +1,7 @@
 // Bytes of a text, and labels.
 use crate::answer::Parsed;
 use crate::entry::leaf;
-use tables::kinds::LABELLED;
+use tables::LABELLED;
 ghost use mathlib.Core.Path.{_≡_};
 ghost use Prim.Native.Nat.{_≤_};
 ghost use lib.ListN.{length, getD};

@@ -1,12 +1,12 @@
 // The answers of the records' filters on the whole roll.
 use crate::index::first_named;
-use checks::annotation;
-use checks::annotation::record_at;
+use checks::count as records_of;
+use checks::record_at;
 use evaluator::narrow;
 use roll::count;
 use sets::below;
 use sets::empty;
-use tables::entry::count as entries_of;
+use tables::count as entries_of;
 ghost use Prim.Native.Nat.{_+_, _<_};
 ghost use lib.ListN.{length};
 ghost use Rattle.view.specs.Annotation.{records};
@@ -68,7 +68,7 @@ pub(crate) fn answer(
     requires { ⌜ Grounds (now roll) (now filters) (now links) × Annotated (now annotation) (now filters) ⌝ }
     ensures { λ r. ⌜ Answered (now (roll .entry)) (now (annotation .entry)) (now (filters .entry)) r ⌝ }
 {
-    let n = annotation::count(annotation);
+    let n = records_of(annotation);
     let mut answers = [0u64; 2048];
     let mut r = 0;
     while r < n {

@@ -1,6 +1,6 @@
 // An annotation's records by their pairs, so that a node's pair is looked up at once. Records that name one filter share its answer.
-use checks::annotation::count;
-use checks::annotation::record_at;
+use checks::count;
+use checks::record_at;
 ghost use mathlib.Core.Path.{_≡_};
 ghost use Prim.Native.Nat.{_≤_};
 ghost use lib.ListN.{length, getD};

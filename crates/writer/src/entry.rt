@@ -1,8 +1,8 @@
 // An entry whose operands stand elsewhere is written.
 use reply::wide;
-use tables::entry::put;
-use tables::kinds::NONE;
-use tables::kinds::shape_of;
+use tables::NONE;
+use tables::put;
+use tables::shape_of;
 ghost use mathlib.Core.Path.{_≡_};
 ghost use mathlib.Core.List.{[], _∷_};
 ghost use Prim.Native.Nat.{_+_};

@@ -8,7 +8,7 @@ mod rows;
 
 use moved::write_query;
 use prelude::write_prelude;
-use tables::entry::count;
+use tables::count;
 ghost use mathlib.Core.Path.{_≡_};
 ghost use Prim.Native.Nat.{_+_};
 ghost use lib.ListN.{length};

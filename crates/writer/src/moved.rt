@@ -1,12 +1,12 @@
 // The query's own entries, one for each.
 use crate::entry::put_raised;
 use crate::rows::put_row;
-use tables::entry::count;
-use tables::entry::entry_at;
-use tables::kinds::CHILD;
-use tables::kinds::NEXT;
-use tables::kinds::PARENT;
-use tables::kinds::PREVIOUS;
+use tables::CHILD;
+use tables::NEXT;
+use tables::PARENT;
+use tables::PREVIOUS;
+use tables::count;
+use tables::entry_at;
 ghost use mathlib.Core.Path.{_≡_};
 ghost use mathlib.Core.List.{[], _∷_, map};
 ghost use lib.ListN.{length};

@@ -1,9 +1,9 @@
 // What stands before the query's own entries: it depends on the annotation and on the number of filter entries alone.
 use crate::records::write_records;
 use crate::rows::write_rows;
-use tables::entry::put;
-use tables::kinds::NEVER;
-use tables::kinds::PARENT;
+use tables::NEVER;
+use tables::PARENT;
+use tables::put;
 ghost use mathlib.Core.Path.{_≡_};
 ghost use mathlib.Core.List.{[], _∷_};
 ghost use lib.ListN.{length};

@@ -1,13 +1,13 @@
 // The entries for the annotation's records.
-use checks::annotation::count;
-use checks::annotation::record_at;
-use tables::entry::put;
-use tables::kinds::AND;
-use tables::kinds::LABELLED;
-use tables::kinds::LEADS;
-use tables::kinds::OR;
-use tables::kinds::STAY;
-use tables::kinds::THEN;
+use checks::count;
+use checks::record_at;
+use tables::AND;
+use tables::LABELLED;
+use tables::LEADS;
+use tables::OR;
+use tables::STAY;
+use tables::THEN;
+use tables::put;
 ghost use mathlib.Core.Path.{_≡_};
 ghost use Prim.Native.Nat.{_+_, _*_, _≤_, _<_};
 ghost use lib.ListN.{length};

@@ -1,17 +1,17 @@
 // Who is visible and the four axes of the view: rows that count their operands from the two entries before them.
 use crate::entry::put_raised;
 use reply::wide;
-use tables::kinds::CHILD;
-use tables::kinds::EITHER;
-use tables::kinds::LEADS;
-use tables::kinds::NEXT;
-use tables::kinds::NOT;
-use tables::kinds::OR;
-use tables::kinds::PARENT;
-use tables::kinds::PREVIOUS;
-use tables::kinds::STAR;
-use tables::kinds::STAY;
-use tables::kinds::THEN;
+use tables::CHILD;
+use tables::EITHER;
+use tables::LEADS;
+use tables::NEXT;
+use tables::NOT;
+use tables::OR;
+use tables::PARENT;
+use tables::PREVIOUS;
+use tables::STAR;
+use tables::STAY;
+use tables::THEN;
 ghost use mathlib.Core.Path.{_≡_};
 ghost use mathlib.Core.List.{[], _∷_, map};
 ghost use Prim.Native.Nat.{_<_};

@@ -34,7 +34,7 @@ use Rattle.evaluator.proofs.narrow.Reads as narrow
 use Rattle.evaluator.proofs.image.Reads as image
 use Rattle.evaluator.proofs.star.Reads as star
 use Rattle.sets.proofs.is_empty.Reads as is-empty
-use Rattle.tables.proofs.entry.entry_at.Reads as entry-at
+use Rattle.tables.proofs.entry_at.Reads as entry-at
 use Rattle.evaluator.proofs.course.is_free.Reads as is-free
 use Rattle.evaluator.proofs.course.first_of.Reads as first-of
 use Rattle.sets.proofs.union.Reads as union

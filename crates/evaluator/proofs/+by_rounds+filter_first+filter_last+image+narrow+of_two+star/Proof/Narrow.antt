@@ -31,7 +31,7 @@ use Rattle.evaluator.proofs.image.Reads as image
 use Rattle.evaluator.proofs.narrow.Reads as narrow
 use Rattle.sets.proofs.is_empty.Reads as is-empty
 use Rattle.sets.proofs.common.Reads as common
-use Rattle.tables.proofs.entry.entry_at.Reads as entry-at
+use Rattle.tables.proofs.entry_at.Reads as entry-at
 use Rattle.steps.proofs.labelled.Reads as labelled
 use Rattle.sets.proofs.difference.Reads as difference
 use Rattle.sets.proofs.union.Reads as union

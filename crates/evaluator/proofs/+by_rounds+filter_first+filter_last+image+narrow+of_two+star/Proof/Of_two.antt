@@ -26,7 +26,7 @@ use Rattle.evaluator.proofs.filter_first.Reads as filter-first
 use Rattle.evaluator.proofs.filter_last.Reads as filter-last
 use Rattle.evaluator.proofs.by_rounds.Reads as by-rounds
 use Rattle.evaluator.proofs.of_two.Reads as of-two
-use Rattle.tables.proofs.entry.entry_at.Reads as entry-at
+use Rattle.tables.proofs.entry_at.Reads as entry-at
 use Rattle.evaluator.proofs.course.first_of.Reads as first-of
 use Rattle.evaluator.proofs.at_hand.stays_at_hand.Reads as stays-at-hand
 use Rattle.evaluator.proofs.ways.way_of.Reads as way-of

@@ -21,7 +21,7 @@ use Rattle.evaluator.proofs.+by_rounds+filter_first+filter_last+image+n
 use Rattle.evaluator.proofs.of_two.Reads as of-two
 use Rattle.evaluator.proofs.star.Reads as star
 use Rattle.evaluator.proofs.by_rounds.Reads as by-rounds
-use Rattle.tables.proofs.entry.entry_at.Reads as entry-at
+use Rattle.tables.proofs.entry_at.Reads as entry-at
 use Rattle.evaluator.proofs.ways.way_of.Reads as way-of
 use Rattle.sets.proofs.below.Reads as below
 use Rattle.steps.proofs.closure.Reads as closure

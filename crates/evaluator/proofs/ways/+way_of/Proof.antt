@@ -19,7 +19,7 @@ use Rattle.evaluator.proofs.course.axis_of.Reads as axis-of
 use Rattle.evaluator.proofs.course.way.Reads as way
 use Rattle.evaluator.proofs.ways.either.Reads as either
 use Rattle.steps.proofs.only.Reads as only
-use Rattle.tables.proofs.entry.entry_at.Reads as entry-at
+use Rattle.tables.proofs.entry_at.Reads as entry-at
 use Rattle.evaluator.proofs.ways.+way_of.{statement}
 use Rattle.evaluator.proofs.ways.+way_of.Tie.{close}
 

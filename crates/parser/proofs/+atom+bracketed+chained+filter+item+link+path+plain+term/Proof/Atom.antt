@@ -15,11 +15,11 @@ use Rattle.tokens.proofs.Atoms.{square-follows, round-follows, axis-seen, axis-
 use Rattle.parser.proofs.+atom+bracketed+chained+filter+item+link+path+plain+term.Proof.Measures.{μ-atom, μ-bracketed}
 use Rattle.parser.proofs.+atom+bracketed+chained+filter+item+link+path+plain+term.Lts-atom as lts
 use Rattle.parser.proofs.atom.Reads as atom
-use Rattle.tokens.proofs.label.byte_at.Reads as byte-at-reads
+use Rattle.tokens.proofs.byte_at.Reads as byte-at-reads
 use Rattle.parser.proofs.bracketed.Reads as bracketed
-use Rattle.tokens.proofs.entry.behind.Reads as behind-reads
-use Rattle.tokens.proofs.kind.axis.Reads as axis-reads
-use Rattle.tokens.proofs.entry.leaf.Reads as leaf-reads
+use Rattle.tokens.proofs.behind.Reads as behind-reads
+use Rattle.tokens.proofs.axis.Reads as axis-reads
+use Rattle.tokens.proofs.leaf.Reads as leaf-reads
 use Rattle.parser.proofs.atom.Kinds as atom-kinds
 use Rattle.parser.proofs.bracketed.Kinds as bracketed-kinds
 

@@ -19,8 +19,8 @@ use Rattle.parser.proofs.+atom+bracketed+chained+filter+item+link+path+
 use Rattle.parser.proofs.+atom+bracketed+chained+filter+item+link+path+plain+term.Lts-bracketed as lts
 use Rattle.parser.proofs.bracketed.Reads as bracketed
 use Rattle.parser.proofs.path.Reads as path
-use Rattle.tokens.proofs.kind.closing.Reads as closing-reads
-use Rattle.tokens.proofs.answer.closed.Reads as closed-reads
+use Rattle.tokens.proofs.closing.Reads as closing-reads
+use Rattle.tokens.proofs.closed.Reads as closed-reads
 use Rattle.parser.proofs.filter.Reads as filter
 use Rattle.parser.proofs.bracketed.Kinds as bracketed-kinds
 use Rattle.parser.proofs.filter.Kinds as filter-kinds

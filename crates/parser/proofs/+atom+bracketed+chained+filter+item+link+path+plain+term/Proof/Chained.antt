@@ -20,12 +20,12 @@ use Rattle.parser.proofs.+atom+bracketed+chained+filter+item+link+path+
 use Rattle.parser.proofs.+atom+bracketed+chained+filter+item+link+path+plain+term.Lts-chained as lts
 use Rattle.parser.proofs.chained.Reads as chained
 use Rattle.parser.proofs.link.Reads as link
-use Rattle.tokens.proofs.answer.passed.Reads as passed-reads
-use Rattle.tokens.proofs.kind.inner.Reads as inner-reads
-use Rattle.tokens.proofs.entry.joined.Reads as joined-reads
-use Rattle.tokens.proofs.label.byte_at.Reads as byte-at-reads
-use Rattle.tokens.proofs.kind.joint.Reads as joint-reads
-use Rattle.tokens.proofs.kind.outer.Reads as outer-reads
+use Rattle.tokens.proofs.passed.Reads as passed-reads
+use Rattle.tokens.proofs.inner.Reads as inner-reads
+use Rattle.tokens.proofs.joined.Reads as joined-reads
+use Rattle.tokens.proofs.byte_at.Reads as byte-at-reads
+use Rattle.tokens.proofs.joint.Reads as joint-reads
+use Rattle.tokens.proofs.outer.Reads as outer-reads
 use Rattle.parser.proofs.chained.Kinds as chained-kinds
 use Rattle.parser.proofs.link.Kinds as link-kinds
 

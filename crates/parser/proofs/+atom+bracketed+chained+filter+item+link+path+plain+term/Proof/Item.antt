@@ -16,9 +16,9 @@ use Rattle.parser.proofs.+atom+bracketed+chained+filter+item+link+path+
 use Rattle.parser.proofs.+atom+bracketed+chained+filter+item+link+path+plain+term.Lts-item as lts
 use Rattle.parser.proofs.item.Reads as item
 use Rattle.parser.proofs.atom.Reads as atom
-use Rattle.tokens.proofs.answer.passed.Reads as passed-reads
-use Rattle.tokens.proofs.label.byte_at.Reads as byte-at-reads
-use Rattle.tokens.proofs.entry.put.Reads as put-reads
+use Rattle.tokens.proofs.passed.Reads as passed-reads
+use Rattle.tokens.proofs.byte_at.Reads as byte-at-reads
+use Rattle.tokens.proofs.put.Reads as put-reads
 use Rattle.parser.proofs.atom.Kinds as atom-kinds
 use Rattle.parser.proofs.item.Kinds as item-kinds
 

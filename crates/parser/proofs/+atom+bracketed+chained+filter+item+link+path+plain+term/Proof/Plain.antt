@@ -17,10 +17,10 @@ use Rattle.parser.proofs.+atom+bracketed+chained+filter+item+link+path+
 use Rattle.parser.proofs.+atom+bracketed+chained+filter+item+link+path+plain+term.Proof.Measures.{μ-plain}
 use Rattle.parser.proofs.+atom+bracketed+chained+filter+item+link+path+plain+term.Lts-plain as lts
 use Rattle.parser.proofs.plain.Reads as plain
-use Rattle.tokens.proofs.label.byte_at.Reads as byte-at-reads
-use Rattle.tokens.proofs.entry.behind.Reads as behind-reads
-use Rattle.tokens.proofs.entry.leaf.Reads as leaf-reads
-use Rattle.tokens.proofs.label.labelled.Reads as labelled-reads
+use Rattle.tokens.proofs.byte_at.Reads as byte-at-reads
+use Rattle.tokens.proofs.behind.Reads as behind-reads
+use Rattle.tokens.proofs.leaf.Reads as leaf-reads
+use Rattle.tokens.proofs.labelled.Reads as labelled-reads
 use Rattle.parser.proofs.bracketed.Reads as bracketed
 use Rattle.parser.proofs.path.Reads as path
 use Rattle.parser.proofs.bracketed.Kinds as bracketed-kinds

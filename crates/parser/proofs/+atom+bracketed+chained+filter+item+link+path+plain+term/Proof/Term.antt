@@ -14,9 +14,9 @@ use Rattle.tokens.proofs.Terms.{not-follows}
 use Rattle.parser.proofs.+atom+bracketed+chained+filter+item+link+path+plain+term.Proof.Measures.{μ-plain, μ-term}
 use Rattle.parser.proofs.+atom+bracketed+chained+filter+item+link+path+plain+term.Lts-term as lts
 use Rattle.parser.proofs.term.Reads as term
-use Rattle.tokens.proofs.label.past_nots.Reads as past-nots-reads
+use Rattle.tokens.proofs.past_nots.Reads as past-nots-reads
 use Rattle.parser.proofs.plain.Reads as plain
-use Rattle.tokens.proofs.entry.behind.Reads as behind-reads
+use Rattle.tokens.proofs.behind.Reads as behind-reads
 use Rattle.parser.proofs.plain.Kinds as plain-kinds
 use Rattle.parser.proofs.term.Kinds as term-kinds
 
