@@ -1,4 +1,5 @@
-// Two sets made into one. The loop has nothing in it but the word operation, so that the compiler does several words at once.
+// Two sets made into one. Each caller names its way as a constant, so that the compiler drops the match from the loop and does several
+// words at once.
 ghost use mathlib.Core.Path.{_≡_};
 ghost use mathlib.Core.Logic.{_↔_, _⊎_};
 ghost use Prim.Native.Nat.{ℕ};
@@ -13,7 +14,7 @@ pub enum Merge {
     First,
 }
 
-// Two words made into one.
+// What is kept of two words, bit by bit.
 fn merged(how: Merge, a: u64, b: u64) -> u64
     ensures { λ r. ⌜ ((k : ℕ) → (digit r k ≡ 1) ↔ Kept how (digit a k ≡ 1) (digit b k ≡ 1)) ⌝ }
 {
@@ -24,7 +25,7 @@ fn merged(how: Merge, a: u64, b: u64) -> u64
     }
 }
 
-// Keeps in a set what another leaves of it, or adds to it.
+// Writes over a set what is kept of it and another.
 fn merge_into(how: Merge, set: &mut [u64; 64], other: &[u64; 64])
     ensures { λ _. ⌜ Holds (λ k. Kept how (In (now (set .entry)) k) (In (now (other .entry)) k)) (now (set .exit)) ⌝ }
 {

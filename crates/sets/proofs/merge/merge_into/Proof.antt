@@ -1,4 +1,4 @@
--- `sets::merge::merge_into` meets its contract. Assumes nothing.
+-- `sets::merge::merge_into`: the words before i are merged. Assumes nothing.
 use Prim.Native.Nat.{_≤_, _-_}
 use native.Mathlib.Omega.{arith}
 use borrow.Author.Needs.{needs}

@@ -1,4 +1,4 @@
--- `sets::merge::merged` meets its contract: each operation, digit by digit. Assumes nothing.
+-- `sets::merge::merged`: what each operation makes of a digit. Assumes nothing.
 use borrow.Author.Needs.{needs}
 use Rattle.sets.proofs.Digits.{and-one, or-one, minus-one}
 use Rattle.sets.proofs.merge.merged.Statement.{statement}
