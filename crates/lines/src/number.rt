@@ -34,3 +34,11 @@ pub(crate) fn put_spaced(out: &mut [u8], at: usize, n: usize) -> usize
     let to = put_byte(out, at, b' ');
     put_decimal(out, to, n)
 }
+
+// A space and a number of any size, which takes at most 21 bytes.
+pub(crate) fn put_number(out: &mut [u8], at: usize, n: usize) -> usize
+    requires { ⌜ at + 21 ≤ length (now out) ⌝ }
+    ensures { λ r. ⌜ Put (now (out .entry)) at (spaced (n ∷ [])) r (now (out .exit)) × (r ≤ at + 21) ⌝ }
+{
+    put_spaced(out, at, n)
+}

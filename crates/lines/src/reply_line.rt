@@ -1,5 +1,6 @@
 // The line for a reply: `A`, the count and the positions ascending, or `R`, number and place, with single spaces.
 use crate::number::put_byte;
+use crate::number::put_number;
 use crate::number::put_spaced;
 use reply::Reply;
 use reply::number_of;
@@ -59,7 +60,7 @@ fn put_head(out: &mut [u8], letter: u8, n: usize) -> usize
     ensures { λ r. ⌜ Put (now (out .entry)) 0 (letter ∷ spaced (n ∷ [])) r (now (out .exit)) × (r ≤ 22) ⌝ }
 {
     let to = put_byte(out, 0, letter);
-    put_spaced(out, to, n)
+    put_number(out, to, n)
 }
 
 // A count, with the positions in its bitmap.
@@ -77,7 +78,7 @@ fn put_refusal(number: usize, place: usize, out: &mut [u8]) -> usize
     ensures { λ r. ⌜ Begun (refused number place) [] (now (out .entry)) r (now (out .exit)) ⌝ }
 {
     let numbered = put_head(out, b'R', number);
-    put_spaced(out, numbered, place)
+    put_number(out, numbered, place)
 }
 
 // A reply, with the bitmap that goes with it.

@@ -12,9 +12,7 @@ put-head-requires : tie.Need-put-head-requires
 put-head-requires c κs = search needs
 
 put-positions-requires : tie.Need-put-positions-requires
-put-positions-requires c κs =
-    let head = c .before .before .before in
-    omega (arith, head .put-head .ensures .1, head .put-head .kept .0, head .before .before .before .pre)
+put-positions-requires c κs = search needs
 
 same-length : tie.Need-same-length
 same-length c = search needs

@@ -1,5 +1,4 @@
 -- `write_line`: what is written of the reply, and the line feed behind it. Assumes nothing.
-use native.Mathlib.Omega.{arith}
 use borrow.Author.Needs.{needs}
 use Rattle.lines.proofs.Listing.{ended}
 use Rattle.lines.proofs.reply_line.write_line.Statement.{statement}
@@ -9,9 +8,7 @@ put-reply-requires : tie.Need-put-reply-requires
 put-reply-requires c κs = search needs
 
 put-byte-requires : tie.Need-put-byte-requires
-put-byte-requires c κs =
-    let begun = c .before .before .before in
-    omega (arith, begun .put-reply .ensures .room, begun .put-reply .kept .1 .1 .0, begun .before .before .before .pre)
+put-byte-requires c κs = search needs
 
 same-length : tie.Need-same-length
 same-length c = search needs
