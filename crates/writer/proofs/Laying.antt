@@ -4,7 +4,7 @@ use native.Mathlib.Nat.{le-of-lt}
 use native.Mathlib.Numerals.{add-one}
 use native.Mathlib.Omega.{arith}
 use mathlib.Core.Path.{_≡_, sym, ap, _∙_}
-use mathlib.Core.List.{[], _∷_, _++_, map, map-append}
+use mathlib.Core.List.{List, [], _∷_, _++_, map, map-append}
 use lib.ListN.{length, getD, take, length-map}
 use lib.Seq.{length-sets, take-suc, take-all, length-take-le}
 use Rattle.reply.specs.Bytes.{Bytes}
@@ -29,15 +29,8 @@ module _ (out : Bytes) (n : ℕ) (es : Entries) where
       → next ≡ laid out n (es ++ fs)
   laid-more {m} fs before e after = after ∙ ap (λ (b : Bytes). laid b m fs) before ∙ laid-on fs e
 
--- the first k entries of a list are written, and then one more
-pub laid-step : (out : Bytes) (n : ℕ) (es : Entries) (d : Entry) (k : ℕ) {now next : Bytes} → k < length es → now ≡ laid out n (take k es)
-    → next ≡ laid now (n + k) (getD es k d ∷ []) → next ≡ laid out n (take (k + 1) es)
-laid-step out n es d k l before after =
-    laid-more out n (take k es) (getD es k d ∷ []) before (ap (λ (i : ℕ). n + i) (sym (length-take-le k es (le-of-lt l)))) after
-    ∙ ap (laid out n) (sym (ap (λ (i : ℕ). take i es) (add-one k) ∙ take-suc es k d l))
-
--- Entries that are made one by one from those of a list: k of them are written.
-module _ (out : Bytes) (n : ℕ) (f : Entry → Entry) (es : Entries) (d : Entry) where
+-- Entries that are made one by one from what stands in a list: k of them are written.
+module _ {A : Type 0} (out : Bytes) (n : ℕ) (f : A → Entry) (es : List A) (d : A) where
   -- then one more
   pub laid-next : {k : ℕ} {now next : Bytes} → k < length es → now ≡ laid out n (map f (take k es))
       → next ≡ laid now (n + k) (f (getD es k d) ∷ [])
@@ -50,7 +43,7 @@ module _ (out : Bytes) (n : ℕ) (f : Entry → Entry) (es : Entries) (d : Entry
 
   -- and at the end all of them
   pub laid-all : {k : ℕ} {now : Bytes} → length es ≤ k → now ≡ laid out n (map f (take k es)) → now ≡ laid out n (map f es)
-  laid-all {k} l e = e ∙ ap (λ (l : Entries). laid out n (map f l)) (take-all k es l)
+  laid-all {k} l e = e ∙ ap (λ (l : List A). laid out n (map f l)) (take-all k es l)
 
 -- what is laid is as long as what it is laid in
 pub laid-same : (out : Bytes) (n : ℕ) (es : Entries) {now : Bytes} → now ≡ laid out n es → length now ≡ length out

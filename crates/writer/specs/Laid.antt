@@ -6,6 +6,8 @@ use Rattle.reply.specs.Bytes.{Bytes}
 use Rattle.query.specs.Table.{Entry, entries, EntryRight}
 use Rattle.view.specs.Annotation.{records, recordAt}
 use Rattle.written.specs.Written.{raise, axisRow, chosen}
+use Rattle.tables.specs.Laid.{fields}
+use Rattle.writer.specs.declared.records.Fields.{Fields}
 use Rattle.writer.specs.declared.moved.StandIn.{StandIn}
 use Rattle.writer.specs.declared.moved.StandIn.the-variants.{CopyOf, Itself}
 
@@ -35,6 +37,10 @@ LabelBytes annotation =
 -- every entry of a table is in order
 abbrev pub AllInOrder : Bytes → Type 0
 AllInOrder table = (i : ℕ) → i < length (entries table) → EntryRight (entries table) i
+
+-- an entry by the struct of its fields
+abbrev pub asEntry : Fields → Entry
+asEntry own = fields (own .0) (own .1) (own .2) (own .3)
 
 -- What stands for an entry of a kind, whichever entry it is and wherever the rows stand.
 abbrev pub StandsFor : ℕ → StandIn → Type 0

@@ -9,60 +9,51 @@ use tables::STAY;
 use tables::THEN;
 use tables::put;
 ghost use mathlib.Core.Path.{_≡_};
+ghost use mathlib.Core.List.{map};
 ghost use Prim.Native.Nat.{_+_, _*_, _≤_, _<_};
 ghost use lib.ListN.{length};
 ghost use Rattle.view.specs.Annotation.{records};
-ghost use Rattle.written.specs.Written.{parentEntries, pairEntries, eitherEntries, nineEntries, recordsEntries};
+ghost use Rattle.written.specs.Written.{nineEntries, recordsEntries};
 ghost use Rattle.tables.specs.Laid.{laid};
-ghost use Rattle.writer.specs.Laid.{Room, Short, LabelBytes, Numbers};
+ghost use Rattle.writer.specs.Laid.{Room, Short, LabelBytes, Numbers, asEntry};
 
-// Writes the four entries for "the parent has this label", from entry `at` of the part on: they stand behind the first entry of a pair's
-// six, which has the number `b`, and the parent step has the number `up`.
-fn put_parent(out: &mut [u8], at: usize, up: usize, b: usize, parent: u8)
-    requires { ⌜ Room (now out) at 4 ⌝ }
-    requires { ⌜ b < 131072 ⌝ }
-    ensures { λ _. ⌜ now (out .exit) ≡ laid (now (out .entry)) at (parentEntries up b parent) ⌝ }
-{
-    put(out, at, LABELLED, parent, 0, 0);
-    put(out, at + 1, STAY, 0, b + 1, 0);
-    put(out, at + 2, THEN, 0, up, b + 2);
-    put(out, at + 3, LEADS, 0, b + 3, 0);
-}
+// An entry's kind, label and operands.
+struct Fields(u8, u8, usize, usize);
 
-// Writes the six entries for a pair of labels, from entry `at` of the part on. The part's first entry is the parent step, and has the
-// number `first`.
-fn put_pair(out: &mut [u8], at: usize, first: usize, parent: u8, child: u8)
-    requires { ⌜ Room (now out) at 6 ⌝ }
-    requires { ⌜ Short at × Short first ⌝ }
-    ensures { λ _. ⌜ now (out .exit) ≡ laid (now (out .entry)) at (pairEntries first (first + at) parent child) ⌝ }
-{
-    let b = first + at;
-    put(out, at, LABELLED, child, 0, 0);
-    put_parent(out, at + 1, first, b, parent);
-    put(out, at + 5, AND, 0, b, b + 4);
-}
-
-// Writes the last two of a record's nine entries, from entry `at` of the part on: the pair, and the pair with the filter, either with what
-// the records before it say. The first of the nine has the number `b`.
-fn put_either(out: &mut [u8], at: usize, b: usize)
-    requires { ⌜ Room (now out) at 2 ⌝ }
+// The nine entries of a record, the first with the number `b`: its pair of labels, the pair with the filter, and either with what the
+// records before it say. The parent step has the number `up`.
+fn nine(up: usize, b: usize, parent: u8, child: u8, filter: usize) -> [Fields; 9]
     requires { ⌜ (2 ≤ b) × (b < 131072) ⌝ }
-    ensures { λ _. ⌜ now (out .exit) ≡ laid (now (out .entry)) at (eitherEntries b) ⌝ }
+    ensures { λ r. ⌜ map asEntry r ≡ nineEntries up b parent child filter ⌝ }
 {
-    put(out, at, OR, 0, b + 5, b - 2);
-    put(out, at + 1, OR, 0, b + 6, b - 1);
+    let pair = b + 5;
+    [
+        Fields(LABELLED, child, 0, 0),
+        Fields(LABELLED, parent, 0, 0),
+        Fields(STAY, 0, b + 1, 0),
+        Fields(THEN, 0, up, b + 2),
+        Fields(LEADS, 0, b + 3, 0),
+        Fields(AND, 0, b, b + 4),
+        Fields(AND, 0, pair, filter),
+        Fields(OR, 0, pair, b - 2),
+        Fields(OR, 0, b + 6, b - 1),
+    ]
 }
 
-// Writes the nine entries of a record: its pair, the pair with the filter, and either with what the records before it say.
+// Writes the nine entries of a record, from entry `at` of the part on. The part's first entry is the parent step, and has the number
+// `first`.
 fn put_record(out: &mut [u8], at: usize, first: usize, parent: u8, child: u8, filter: usize)
     requires { ⌜ Room (now out) at 9 ⌝ }
     requires { ⌜ (2 ≤ at) × (Short at × Short first) ⌝ }
     ensures { λ _. ⌜ now (out .exit) ≡ laid (now (out .entry)) at (nineEntries first (first + at) parent child filter) ⌝ }
 {
-    put_pair(out, at, first, parent, child);
-    let b = first + at;
-    put(out, at + 6, AND, 0, b + 5, filter);
-    put_either(out, at + 7, b);
+    let all = nine(first, first + at, parent, child, filter);
+    let mut k = 0;
+    while k < 9 {
+        let own = all[k];
+        put(out, at + k, own.0, own.1, own.2, own.3);
+        k += 1;
+    }
 }
 
 // Writes the entries of all records behind the opening, the last record first; gives the number of entries that the part then has.

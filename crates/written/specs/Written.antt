@@ -40,21 +40,22 @@ raise distance = renumber (λ x. x + distance)
 abbrev pub opening : Entries
 opening = entry 3 0 0 ∷ entry 19 0 0 ∷ entry 19 0 0 ∷ []
 
--- Six entries for a pair of labels, the first with number b; the parent step has the number `up`. The four in the middle ask whether the
--- parent has its label.
-abbrev pub parentEntries : (up b parent : ℕ) → Entries
-parentEntries up b parent = labelEntry parent ∷ entry 6 (b + 1) 0 ∷ entry 7 up (b + 2) ∷ entry 17 (b + 3) 0 ∷ []
-
+-- Six entries for a pair of labels, the first with number b; the parent step has the number `up`.
 abbrev pub pairEntries : (up b parent child : ℕ) → Entries
-pairEntries up b parent child = labelEntry child ∷ (parentEntries up b parent ++ (entry 21 b (b + 4) ∷ []))
+pairEntries up b parent child =
+    labelEntry child
+    ∷ labelEntry parent
+    ∷ entry 6 (b + 1) 0
+    ∷ entry 7 up (b + 2)
+    ∷ entry 17 (b + 3) 0
+    ∷ entry 21 b (b + 4)
+    ∷ []
 
 -- Nine entries for a record. The two before them say of the records that were written whether one is the node's, and whether one shows it;
 -- the last two of the nine say so with this record.
-abbrev pub eitherEntries : (b : ℕ) → Entries
-eitherEntries b = entry 22 (b + 5) (b - 2) ∷ entry 22 (b + 6) (b - 1) ∷ []
-
 abbrev pub nineEntries : (up b parent child filter : ℕ) → Entries
-nineEntries up b parent child filter = pairEntries up b parent child ++ (entry 21 (b + 5) filter ∷ eitherEntries b)
+nineEntries up b parent child filter =
+    pairEntries up b parent child ++ (entry 21 (b + 5) filter ∷ entry 22 (b + 5) (b - 2) ∷ entry 22 (b + 6) (b - 1) ∷ [])
 
 abbrev pub recordEntries : ℕ → ℕ → AnnotationRecord → Entries
 recordEntries up b r = nineEntries up b (r .parent) (r .child) (r .filter)

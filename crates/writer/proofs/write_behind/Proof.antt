@@ -1,4 +1,4 @@
--- `writer::write_behind` meets its contract. Assumes nothing.
+-- `write_behind`: the query's entries stand behind the prelude. Assumes nothing.
 use native.Mathlib.Omega.{arith}
 use mathlib.Core.List.{List}
 use Rattle.query.specs.Table.{Entries, entries}

@@ -1,4 +1,4 @@
--- `writer::entry::put_raised` meets its contract: each operand is raised as its kind's shape says. Assumes nothing.
+-- `put_raised`: each operand is raised as its kind's shape says. Assumes nothing.
 use Prim.Native.Nat.{ℕ, _+_}
 use mathlib.Core.Path.{ap, ap₂, _∙_}
 use mathlib.Core.List.{[], _∷_}

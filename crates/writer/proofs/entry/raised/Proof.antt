@@ -1,4 +1,4 @@
--- `writer::entry::raised` meets its contract. Assumes nothing.
+-- `raised`: by cases on whether the field is used. Assumes nothing.
 use Prim.Native.Nat.{ℕ, zero, suc}
 use mathlib.Core.Path.{_≡_, refl}
 use borrow.Author.Needs.{needs}

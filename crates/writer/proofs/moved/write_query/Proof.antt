@@ -1,5 +1,5 @@
--- `writer::moved::write_query` meets its contract. The loop's invariant: what stands for the first i entries is written. The measure is the
--- number of entries that are left. Assumes nothing.
+-- `write_query`. The loop's invariant: what stands for the first i entries is written. The measure is the number of entries that are left.
+-- Assumes nothing.
 use Prim.Native.Nat.{_-_, _≤_, _<_}
 use native.Mathlib.Omega.{arith}
 use mathlib.Core.Path.{_≡_, refl}

@@ -1,8 +1,10 @@
--- `writer::prelude::write_opening` meets its contract. Assumes nothing.
-use lib.Dec.{lit<}
+-- `write_opening`: three entries, one behind the other. Assumes nothing.
+use mathlib.Core.Path.{refl}
+use mathlib.Core.List.{[], _∷_, _++_}
 use Rattle.reply.specs.Bytes.{Bytes}
-use Rattle.written.specs.Written.{entry, opening}
-use Rattle.writer.proofs.Laying.{laid-step}
+use Rattle.query.specs.Table.{Entries}
+use Rattle.written.specs.Written.{entry}
+use Rattle.writer.proofs.Laying.{laid-more}
 use borrow.Author.Needs.{needs}
 use Rattle.writer.proofs.prelude.write_opening.Statement.{statement}
 use Rattle.writer.proofs.prelude.write_opening.Tie as tie
@@ -25,8 +27,10 @@ returns c =
     let two = three .before .before .before .before in
     let one = two .before .before .before .before in
     let out : Bytes = one .before .before .before .args .out .now in
-    laid-step out 0 opening (entry 0 0 0) 2 (lit< tt)
-    (laid-step out 0 opening (entry 0 0 0) 1 (lit< tt) (one .put .ensures) (two .put2 .ensures)) (three .put3 .ensures)
+    let up : Entries = entry 3 0 0 ∷ [] in
+    let none : Entries = entry 19 0 0 ∷ [] in
+    let both = laid-more out 0 up none (one .put .ensures) refl (two .put2 .ensures) in
+    laid-more out 0 (up ++ none) none both refl (three .put3 .ensures)
 
 pub write-opening-spec : {M : Type 1} → statement M
 write-opening-spec =

@@ -1,4 +1,4 @@
--- `writer::prelude::write_prelude` meets its contract. Assumes nothing.
+-- `write_prelude`: the opening, the records and the rows, one behind the other. Assumes nothing.
 use Prim.Native.Nat.{ℕ, _+_, _*_, _≤_, _<_}
 use native.Mathlib.Omega.{arith}
 use lib.ListN.{length}

@@ -1,62 +1,96 @@
--- `put_record`: the pair's six entries, one with the filter, and the last two. Assumes nothing.
-use Prim.Native.Nat.{ℕ, _+_}
-use mathlib.Core.Path.{refl}
-use mathlib.Core.List.{[], _∷_, _++_}
-use Rattle.reply.specs.Bytes.{Bytes}
-use Rattle.query.specs.Table.{Entries}
-use Rattle.written.specs.Written.{entry, pairEntries, eitherEntries}
-use Rattle.writer.proofs.Laying.{laid-more}
+-- `put_record`. The loop's invariant: the first k entries are written. The measure is the number of entries that are left. Assumes nothing.
+use Prim.Native.Nat.{ℕ, _+_, _-_, _≤_}
+use native.Mathlib.Omega.{arith}
+use mathlib.Core.Path.{_≡_, refl, sym, ap, _∙_}
+use mathlib.Core.List.{map}
 use borrow.Author.Needs.{needs}
+use lib.ListN.{length, take, length-map}
+use Rattle.query.specs.Table.{Entries, entryBytes}
+use Rattle.tables.specs.Laid.{laid}
+use Rattle.writer.specs.Laid.{asEntry}
+use Rattle.writer.proofs.Laying.{laid-next, laid-all, laid-same}
 use Rattle.writer.proofs.records.put_record.Statement.{statement}
 use Rattle.writer.proofs.records.put_record.Tie as tie
 
-put-pair-requires : tie.Need-put-pair-requires
-put-pair-requires c κs = search needs
+abbrev Inv-loop : tie.InvT-loop
+Inv-loop out₀ at first parent child filter all k₀ out k =
+    (k ≤ 9) × ((length out ≡ length out₀) × (out ≡ laid out₀ at (map asEntry (take k all))))
 
-add-b : tie.Need-add-b
-add-b c = search needs
+abbrev μ-loop : tie.MeasureT-loop
+μ-loop out₀ at first parent child filter all k₀ out k = 9 - k
 
-add-put : tie.Need-add-put
+-- there are nine
+nine-all : (c : tie.After-nine Inv-loop μ-loop) → length (c .nine .result) ≡ 9
+nine-all c = sym (length-map (c .nine .result) asEntry) ∙ ap length (c .nine .ensures)
+
+add-nine : tie.Need-add-nine Inv-loop μ-loop
+add-nine c = search needs
+
+nine-requires : tie.Need-nine-requires Inv-loop μ-loop
+nine-requires c κs = search needs
+
+loop-holds : tie.Need-loop-holds Inv-loop μ-loop
+unfolding entryBytes
+loop-holds c = (omega arith, (refl, refl))
+
+mul-own : tie.Need-mul-own Inv-loop μ-loop
+mul-own c = search needs
+
+array-copy-out-own : tie.Need-array-copy-out-own Inv-loop μ-loop
+array-copy-out-own c = search needs
+
+add-put : tie.Need-add-put Inv-loop μ-loop
 add-put c = search needs
 
-add-put-2 : tie.Need-add-put-2
-add-put-2 c = search needs
+put-requires : tie.Need-put-requires Inv-loop μ-loop
+put-requires c κs =
+    let at-loop = c .before .before .before in
+    omega (arith, at-loop .before .before .before .pre .0 .fits, at-loop .loop .inv .1 .0)
 
-put-requires : tie.Need-put-requires
-put-requires c κs = search needs
+add-k : tie.Need-add-k Inv-loop μ-loop
+add-k c = search needs
 
-add-put-either : tie.Need-add-put-either
-add-put-either c = search needs
+loop-less : tie.Need-loop-less Inv-loop μ-loop
+loop-less c = search needs
 
-put-either-requires : tie.Need-put-either-requires
-put-either-requires c κs = search needs
+loop-again : tie.Need-loop-again Inv-loop μ-loop
+loop-again c =
+    let at-put = c .before .before in
+    let at-test = at-put .before .before .before in
+    let at-loop = at-test .before in
+    let made = at-loop .before in
+    let a = made .before .before .args in
+    let next =
+    laid-next (a .out .now) (a .at) asEntry (made .nine .result) (0, 0, 0, 0) (omega (arith, at-test .loop-test .taken, nine-all made))
+    (at-loop .loop .inv .1 .1) (at-put .put .ensures) in
+    (omega arith, (laid-same (a .out .now) (a .at) _ next, next))
 
-same-length : tie.Need-same-length
+same-length : tie.Need-same-length Inv-loop μ-loop
 same-length c = search needs
 
-returns : tie.Need-returns
+returns : tie.Need-returns Inv-loop μ-loop
 returns c =
-    let last = c .before .before in
-    let shown = last .before .before .before .before in
-    let pair = shown .before .before .before .before in
-    let a = pair .before .before .before .args in
-    let out : Bytes = a .out .now in
-    let b : ℕ = a .first + a .at in
-    let six : Entries = pairEntries (a .first) b (a .parent) (a .child) in
-    let seventh : Entries = entry 21 (b + 5) (a .filter) ∷ [] in
-    let seven = laid-more out (a .at) six seventh (pair .put-pair .ensures) refl (shown .put .ensures) in
-    laid-more out (a .at) (six ++ seventh) (eitherEntries b) seven refl (last .put-either .ensures)
+    let made = c .before .before in
+    let a = made .before .before .args in
+    let end : length (made .nine .result) ≤ c .before .loop .k = omega (arith, c .loop-test .left, nine-all made) in
+    laid-all (a .out .now) (a .at) asEntry (made .nine .result) (0, 0, 0, 0) end (c .before .loop .inv .1 .1)
+    ∙ ap (laid (a .out .now) (a .at)) (made .nine .ensures)
 
 pub put-record-spec : {M : Type 1} → statement M
 put-record-spec =
     tie.close
     (tie.spec
-    put-pair-requires
-    add-b
+    Inv-loop
+    μ-loop
+    add-nine
+    nine-requires
+    loop-holds
+    mul-own
+    array-copy-out-own
     add-put
-    add-put-2
     put-requires
-    add-put-either
-    put-either-requires
+    add-k
+    loop-less
+    loop-again
     same-length
     returns)

@@ -1,5 +1,4 @@
--- `writer::records::write_records` meets its contract. The loop's invariant: the records from i on are written. The measure is i. Assumes
--- nothing.
+-- `write_records`. The loop's invariant: the records from i on are written. The measure is i. Assumes nothing.
 use Prim.Native.Nat.{_-_, _<_}
 use native.Mathlib.Omega.{arith}
 use borrow.Author.Needs.{needs}

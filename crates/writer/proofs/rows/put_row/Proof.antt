@@ -1,4 +1,4 @@
--- `writer::rows::put_row` meets its contract. Assumes nothing.
+-- `put_row`: a row without a label, its operands raised. Assumes nothing.
 use mathlib.Core.Path.{_≡_, ap, _∙_}
 use mathlib.Core.List.{[], _∷_}
 use Rattle.query.specs.Table.{Entry}

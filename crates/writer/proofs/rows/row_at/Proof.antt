@@ -1,4 +1,4 @@
--- `writer::rows::row_at` meets its contract: the constant table is compared once with the list of rows. Assumes nothing.
+-- `row_at`: the constant table is compared once with the list of rows. Assumes nothing.
 use mathlib.Core.Path.{refl}
 use Rattle.written.specs.Written.{axisRows}
 use Rattle.writer.proofs.RowTable.{table-right}

@@ -1,5 +1,4 @@
--- `writer::rows::write_rows` meets its contract. The loop's invariant: the first k rows are written. The measure is the number of rows that
--- are left. Assumes nothing.
+-- `write_rows`. The loop's invariant: the first k rows are written. The measure is the number of rows that are left. Assumes nothing.
 use Prim.Native.Nat.{_-_, _≤_}
 use native.Mathlib.Omega.{arith}
 use mathlib.Core.Path.{_≡_, refl}
