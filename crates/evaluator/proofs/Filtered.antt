@@ -3,86 +3,88 @@ use Prim.Native.Nat.{ℕ, _<_}
 use mathlib.Core.Path.{_≡_, refl}
 use mathlib.Core.Logic.{_↔_, _⊎_, inl, inr, ⊎-elim}
 use mathlib.Core.List.{List}
-use Rattle.query.specs.Meaning.{Star, stop, step}
+use lib.ListN.{length}
+use Rattle.tree.specs.Tree.{Tree}
+use Rattle.query.specs.Syntax.{Path}
+use Rattle.query.specs.Meaning.{Star, stop, step, reach}
 use Rattle.query.proofs.Closure.{star-keeps, star-map, star-more}
-use Rattle.sets.specs.Sets.{In, Holds, Image}
-use Rattle.evaluator.specs.Evaluator.{Then}
-
--- a set that has what a star starts from, and all that steps lead to from it
-pub record Covers (A : ℕ → ℕ → Type 0) (from all : List ℕ) : Type 0 where
-  pub start : (i : ℕ) → In from i → In all i
-  pub closed : (i j : ℕ) → In all i → A i j → In all j
+use Rattle.sets.specs.Sets.{In, Holds, Image, Inside}
+use Rattle.evaluator.specs.Evaluator.{Then, Still, Sources}
+use Rattle.evaluator.proofs.Images.{Stays, image-inside, star-stays}
 
 -- a step that starts from one of the sources
 abbrev pub From : (ℕ → ℕ → Type 0) → List ℕ → ℕ → ℕ → Type 0
 From A sources i j = In sources i × A i j
 
-module _ {A T : ℕ → ℕ → Type 0} (still : (i j : ℕ) → T i j → i ≡ j) {from all sources : List ℕ}
-    (covers : Covers A from all) (held : Image T all sources) where
-  -- the sources are those where the filter holds
-  source : (i : ℕ) → In all i → T i i → In sources i
-  source i x t = held .exact i .1 (i, x, t)
+-- the filter first: a star from the sources, each of which is a node where the filter's path leads to itself
+module _ {t : Tree} {p : Path} {A : ℕ → ℕ → Type 0} (still : Still p) (stays : Stays (length t) A) {from sources r : List ℕ}
+    (inside : Inside (length t) from) (sieve : Sources t p from sources) (found : Image (Star (From A sources)) from r) where
+  -- where it leads anywhere, it leads to itself
+  itself : (i k : ℕ) → reach t p i k → reach t p i i
+  itself i k held = let e = still t i k held in rw e (rw e at held)
 
-  holds-at : (i : ℕ) → In sources i → In all i × T i i
-  holds-at i x = let (k, y, t) = held .exact i .0 x in let e = still k i t in (rw e at y, rw e at t)
-
-  -- the filter first
-  pub filtered-first : {r : List ℕ} → Image (Star (From A sources)) from r → Image (Star (Then T A)) from r
-  filtered-first found = record {
+  pub filter-first : Image (Star (Then (reach t p) A)) from r
+  filter-first = record {
     exact = λ j. (
-      λ x. let (i, y, s) = found .exact j .0 x in (i, y, star-map (λ a b (z, l). (a, holds-at a z .1, l)) s),
-      λ (i, x, s). found .exact j .1 (i, x, star-keeps (λ k. In all k × Star (From A sources) i k) (go i) (covers .start i x, stop) s .1),
+      λ x. let (i, y, s) = found .exact j .0 x in (i, y, star-map (λ a b (z, l). (a, sieve .sound a z, l)) s),
+      λ (i, x, s). found .exact j .1 (i, x, ⊎-elim (λ all. goes-on i all (inside i x) s) (λ none. ends-there none x s) (sieve .whole)),
     );
   }
     where
-      go : (i a b : ℕ) → In all a × Star (From A sources) i a → Then T A a b → In all b × Star (From A sources) i b
-      go i a b (x, s) (k, t, l) =
-          let e = still a k t in
-          let here : T a a = rw e (rw e at t) in
-          let on : A a b = rw e l in
-          (covers .closed a b x on, star-more s (source a x here, on))
+      goes-on : (i : ℕ) {j : ℕ} → ((k : ℕ) → k < length t → reach t p k k → In sources k) → i < length t → Star (Then (reach t p) A) i j
+          → Star (From A sources) i j
+      goes-on i all l s =
+          star-keeps (λ k. (k < length t) × Star (From A sources) i k)
+          (λ a b (m, u) (k, held, led). let on : A a b = rw (still t a k held) led in (stays a b m on, star-more u (all a m (itself a k held), on)))
+          (l, stop) s .1
 
--- the step first: what it begins with is reached by one step, and the filter holds at the end
-module _ {A T : ℕ → ℕ → Type 0} (still : (i j : ℕ) → T i j → i ≡ j) {from begun all sources ends : List ℕ}
-    (start : Image A from begun) (covers : Covers A begun all) (held : Image T all sources)
-    (found : Image (Star (From A sources)) begun ends) where
-  -- a step, and more of them from sources, are goes where the filter holds at the end
-  goes : {i m j : ℕ} → A i m → T j j → Star (From A sources) m j → Star (Then A T) i j
-  goes {j = j} a t stop = step (j, a, t) stop
-  goes {m = m} a t (step (x, l) more) = step (m, a, holds-at still covers held m x .1) (goes l t more)
+      ends-there : {i j : ℕ} → ((k : ℕ) → In from k → ¬ reach t p k k) → In from i → Star (Then (reach t p) A) i j → Star (From A sources) i j
+      ends-there none x stop = stop
+      ends-there {i} none x (step (k, held, led) more) = absurd (none i x (itself i k held))
 
-  pub filtered-last : {last r : List ℕ} → Holds (λ k. In ends k × In sources k) last → Holds (λ k. In from k ⊎ In last k) r
-      → Image (Star (Then A T)) from r
-  filtered-last {last} {r} both united = record {
+  -- where it ends and the filter holds
+  pub ends-held : {kept : List ℕ} → Holds (λ k. In r k × In sources k) kept → Image (reach t p) r kept
+  ends-held both = record {
     exact = λ j. (
-      λ x. ⊎-elim (λ y. (j, y, stop)) (λ y. forth j (both .exact j .0 y)) (united .exact j .0 x),
-      λ (i, x, s). star-keeps (In r) back (united .exact i .1 (inl x)) s,
+      λ x. let (y, z) = both .exact j .0 x in (j, y, sieve .sound j z),
+      λ (i, x, held). let e = still t i j held in both .exact j .1 (rw e at x, rw e at (held-at i x (itself i j held))),
     );
   }
     where
-      forth : (j : ℕ) → In ends j × In sources j → (i : ℕ) × In from i × Star (Then A T) i j
-      forth j (x, y) =
-          let (m, z, s) = found .exact j .0 x in
-          let (i, w, a) = start .exact m .0 z in
-          (i, w, goes a (holds-at still covers held j y .1) s)
+      nowhere : {i j : ℕ} → ((k : ℕ) → In from k → ¬ reach t p k k) → In from i → Star (From A sources) i j → ¬ reach t p j j
+      nowhere none x stop = none _ x
+      nowhere none x (step (z, led) more) = absurd (none _ x (sieve .sound _ z))
 
-      -- one go more stays in it
-      back : (a b : ℕ) → In r a → Then A T a b → In r b
-      back a b x (k, l, t) =
-          let e = still k b t in
-          let on : A a b = rw e at l in
-          let here : T b b = rw e at t in
-          united .exact b .1 (inr (both .exact b .1
-          (⊎-elim (λ y. first y on here) (λ y. let (z, w) = both .exact a .0 y in later z w on here) (united .exact a .0 x))))
-        where
-          first : {a b : ℕ} → In from a → A a b → T b b → In ends b × In sources b
-          first {a} {b} y on here =
-              let z = start .exact b .1 (a, y, on) in
-              (found .exact b .1 (b, z, stop), source still covers held b (covers .start b z) here)
+      held-at : (i : ℕ) → In r i → reach t p i i → In sources i
+      held-at i x held =
+          let (m, y, s) = found .exact i .0 x in
+          ⊎-elim (λ all. all i (image-inside (star-stays (λ a b l (z, led). stays a b l led)) inside found i x) held)
+          (λ none. absurd (nowhere none y s held)) (sieve .whole)
 
-          later : {a b : ℕ} → In ends a → In sources a → A a b → T b b → In ends b × In sources b
-          later {a} {b} y z on here =
-              let (m, w, s) = found .exact a .0 y in (
-                found .exact b .1 (m, w, star-more s (z, on)),
-                source still covers held b (covers .closed a b (holds-at still covers held a z .0) on) here,
-              )
+-- one relation and then another, many times: the first, then many times the other and the first, then the other
+module _ {A T : ℕ → ℕ → Type 0} where
+  goes : {i m n j : ℕ} → A i m → Star (Then T A) m n → T n j → Star (Then A T) i j
+  goes {m = m} a stop t = step (m, a, t) stop
+  goes {m = m} a (step (k, u, b) more) t = step (m, a, u) (goes b more t)
+
+  gone : {i j : ℕ} → Star (Then A T) i j → (i ≡ j) ⊎ ((m : ℕ) × A i m × (n : ℕ) × Star (Then T A) m n × T n j)
+  gone stop = inl refl
+  gone (step (k, a, t) more) =
+      ⊎-elim (λ e. inr (k, a, k, stop, rw e at t)) (λ (m, b, n, s, u). inr (k, a, n, step (_, t, b) s, u)) (gone more)
+
+  pub step-first : {from begun ends kept r : List ℕ} → Image A from begun → Image (Star (Then T A)) begun ends → Image T ends kept
+      → Holds (λ k. In from k ⊎ In kept k) r → Image (Star (Then A T)) from r
+  step-first {from} {kept = kept} begin on hold united = record {
+    exact = λ j. (λ x. ⊎-elim (λ y. (j, y, stop)) (forth j) (united .exact j .0 x), λ (i, x, s). united .exact j .1 (back i j x (gone s)));
+  }
+    where
+      forth : (j : ℕ) → In kept j → (i : ℕ) × In from i × Star (Then A T) i j
+      forth j x =
+          let (n, y, t) = hold .exact j .0 x in
+          let (m, z, s) = on .exact n .0 y in
+          let (i, w, a) = begin .exact m .0 z in
+          (i, w, goes a s t)
+
+      back : (i j : ℕ) → In from i → (i ≡ j) ⊎ ((m : ℕ) × A i m × (n : ℕ) × Star (Then T A) m n × T n j) → In from j ⊎ In kept j
+      back i j x (inl e) = inl (rw e at x)
+      back i j x (inr (m, a, n, s, t)) = inr (hold .exact j .1 (n, on .exact n .1 (m, begin .exact m .1 (i, x, a), s), t))

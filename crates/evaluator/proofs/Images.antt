@@ -4,7 +4,7 @@ use mathlib.Core.Path.{_≡_, refl, sym, subst}
 use mathlib.Core.Logic.{_↔_, _⊎_, inl, inr, ⊎-elim, ⊎-map}
 use mathlib.Core.List.{List}
 use Rattle.query.specs.Meaning.{Star, stop, step}
-use Rattle.query.proofs.Closure.{star-map, star-flat}
+use Rattle.query.proofs.Closure.{star-keeps, star-map, star-flat}
 use Rattle.sets.specs.Sets.{In, Holds, Image, Narrowed, Inside}
 
 module _ {from : List ℕ} where
@@ -65,6 +65,12 @@ image-star-star a = image-same (λ i j. (λ s. step s stop, star-flat)) a
 -- the relation leads from nodes to nodes, of which there are n
 abbrev pub Stays : ℕ → (ℕ → ℕ → Type 0) → Type 0
 Stays n R = (i j : ℕ) → i < n → R i j → j < n
+
+pub then-stays : {n : ℕ} {R Q : ℕ → ℕ → Type 0} → Stays n R → Stays n Q → Stays n (λ i j. (k : ℕ) × R i k × Q k j)
+then-stays first second i j l (k, r, q) = second k j (first i k l r) q
+
+pub star-stays : {n : ℕ} {R : ℕ → ℕ → Type 0} → Stays n R → Stays n (Star R)
+star-stays {n} stays i j l s = star-keeps (λ k. k < n) stays l s
 
 -- the image of nodes is nodes
 pub image-inside : {n : ℕ} {R : ℕ → ℕ → Type 0} {from r : List ℕ} → Stays n R → Inside n from → Image R from r → Inside n r

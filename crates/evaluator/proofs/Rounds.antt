@@ -73,14 +73,3 @@ module _ {n : ℕ} {R : ℕ → ℕ → Type 0} {from : List ℕ} where
       where
         old : (k : ℕ) → In all k ⊎ In fresh k → In all k
         old k = ⊎-elim (λ x. x) (λ x. absurd (none k x))
-
--- where one go adds nothing, the star is where it starts
-pub no-round : {R : ℕ → ℕ → Type 0} {from reached rest : List ℕ} → Image R from reached → Holds (λ k. In reached k × ¬ In from k) rest
-    → ((k : ℕ) → ¬ In rest k) → Image (Star R) from from
-no-round {R} {from} {reached} a d none = record {
-  exact = λ j. (λ x. (j, x, stop), λ (i, x, s). star-keeps (In from) (λ b k y r. stays b k y r (dec-in from k)) x s);
-}
-  where
-    stays : (b k : ℕ) → In from b → R b k → Dec (In from k) → In from k
-    stays b k y r (yes z) = z
-    stays b k y r (no out) = absurd (none k (d .exact k .1 (a .exact k .1 (b, y, r), out)))

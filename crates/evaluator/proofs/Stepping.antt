@@ -8,7 +8,7 @@ use lib.ListN.{length}
 use Rattle.tree.specs.Tree.{Tree, InOrder}
 use Rattle.query.specs.Syntax.{Path, either}
 use Rattle.query.specs.Meaning.{Star, reach}
-use Rattle.sets.specs.Sets.{In, Holds, Image, Inside}
+use Rattle.sets.specs.Sets.{In, Holds, Image}
 use Rattle.steps.specs.Axis.{AlongAny}
 use Rattle.steps.specs.Star.{StepFrom}
 use Rattle.steps.specs.declared.axis.Axes.{Axes}
@@ -17,7 +17,7 @@ use Rattle.evaluator.specs.declared.ways.Way.the-variants.{Along}
 use Rattle.evaluator.specs.Evaluator.{Then}
 use Rattle.evaluator.specs.Ways.{Leads}
 use Rattle.evaluator.proofs.Images.{Stays, image-star}
-use Rattle.evaluator.proofs.Filtered.{Covers, From}
+use Rattle.evaluator.proofs.Filtered.{From}
 
 -- a choice of paths that lead along axes leads along the axes of either
 pub choice-leads : {a b r : Axes} (p q : Path) → Leads p (Along a) → Leads q (Along b)
@@ -43,17 +43,6 @@ module _ {t : Tree} (o : InOrder t) (most : length t ≤ 4096) where
   -- steps stay among the nodes
   pub steps-stay : {axes : Axes} → Stays (length t) (AlongAny t axes)
   steps-stay i j l s = any-end t o s
-
-  -- all nodes cover a star of steps
-  pub every-covers : {axes : Axes} {n : ℕ} {all from : List ℕ} → n ≡ length t → Holds (λ k. k < n) all → Inside (length t) from
-      → Covers (AlongAny t axes) from all × Inside (length t) all
-  every-covers e every inside = (
-    record {
-      start = λ i x. every .exact i .1 (rw e (inside i x));
-      closed = λ i j x l. every .exact j .1 (rw e (any-end t o l));
-    },
-    λ k x. rw e at (every .exact k .0 x),
-  )
 
 -- of one path and then another, either may be put for axes along which it leads
 pub then-along : {t : Tree} {axes : Axes} (p : Path) (R : ℕ → ℕ → Type 0) → Leads p (Along axes) → (i j : ℕ)

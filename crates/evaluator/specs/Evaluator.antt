@@ -1,7 +1,7 @@
 -- What an evaluation rests on.
 use Prim.Native.Nat.{ℕ, _<_}
 use mathlib.Core.Path.{_≡_}
-use mathlib.Core.Logic.{_↔_}
+use mathlib.Core.Logic.{_↔_, _⊎_}
 use mathlib.Core.List.{List}
 use lib.ListN.{length}
 use Rattle.reply.specs.Bytes.{Bytes}
@@ -51,3 +51,8 @@ Then R Q i j = (k : ℕ) × R i k × Q k j
 -- the path stays where it is
 abbrev pub Still : Path → Type 0
 Still p = (t : Tree) (i j : ℕ) → reach t p i j → i ≡ j
+
+-- the sources of a star that starts from a set: only nodes where the path leads to itself, and all of them, unless it does so nowhere in the set
+pub record Sources (t : Tree) (p : Path) (from sources : List ℕ) : Type 0 where
+  pub sound : (k : ℕ) → In sources k → reach t p k k
+  pub whole : ((k : ℕ) → k < length t → reach t p k k → In sources k) ⊎ ((k : ℕ) → In from k → ¬ reach t p k k)

@@ -17,7 +17,6 @@ use sets::difference;
 use sets::empty;
 use sets::is_empty;
 use sets::union;
-use steps::Axes;
 use steps::closure;
 use steps::labelled;
 use steps::only;
@@ -29,13 +28,12 @@ use ways::way_of;
 ghost use mathlib.Core.Path.{_≡_};
 ghost use Rattle.roll.specs.Roll.{nodes};
 ghost use Rattle.query.specs.Kind.{path, filter};
-ghost use Rattle.query.specs.Meaning.{reach, holds, Star};
+ghost use Rattle.query.specs.Meaning.{reach, holds};
 ghost use Rattle.query.specs.Syntax as syntax;
 ghost use Rattle.query.specs.Table.{entries, entryAt, pathAt, filterAt};
 ghost use Rattle.sets.specs.Sets.{Image, Narrowed};
-ghost use Rattle.steps.specs.Axis.{AlongAny};
 ghost use Rattle.evaluator.specs.Course.{facing};
-ghost use Rattle.evaluator.specs.Evaluator.{Knowing, Asked, Then, Still};
+ghost use Rattle.evaluator.specs.Evaluator.{Knowing, Asked, Still, Sources};
 
 // What the path of entry e reaches from a set of nodes, on the course given.
 pub fn image(
@@ -114,7 +112,7 @@ fn star(
 }
 
 // The star of entry e, which is one path and then another: where one of the two is a filter at hand and the other leads along axes, it goes
-// on from each node once.
+// on from each node once. A step and then the filter, many times, is a step, then the filter and a step many times, and the filter.
 fn of_two(
     roll: &[u8],
     links: &[u16; 8192],
@@ -135,70 +133,45 @@ fn of_two(
     if stays_at_hand(table, known, first) {
         let way = way_of(table, second, course, DEEP);
         if let Way::Along(axes) = way {
-            return filter_first(roll, links, table, known, held, first, axes, course, from);
+            let open = sources(roll, links, table, known, held, first, course, from);
+            return closure(roll, links, axes, open, from);
         }
     } else {
         if stays_at_hand(table, known, second) {
             let way = way_of(table, first, course, DEEP);
             if let Way::Along(axes) = way {
-                return filter_last(roll, links, table, known, held, second, axes, course, from);
+                let begun = step(roll, links, axes, from);
+                let open = sources(roll, links, table, known, held, second, course, begun);
+                let ends = closure(roll, links, axes, open, begun);
+                return union(from, common(ends, open));
             }
         }
     }
     by_rounds(roll, links, table, known, held, e, course, from)
 }
 
-// The star of the filter of entry e and then a step along the axes. One go may add nothing; else the filter is asked of all nodes at once.
-fn filter_first(
+// Where a star may go on that starts from a set: at the nodes of the roll where the filter of entry e holds, which are all asked at once. If
+// it holds at none of the set, the star ends there.
+fn sources(
     roll: &[u8],
     links: &[u16; 8192],
     table: &[u8],
     known: usize,
     held: &[u64; 64],
     e: usize,
-    axes: Axes,
     course: Course,
     from: [u64; 64],
 ) -> [u64; 64]
     requires { ⌜ Knowing (now roll) (now table) (now links) known (now held) × Asked (now roll) (now table) path e from ⌝ }
     requires { ⌜ Still (facing course (pathAt (entries (now table)) e)) ⌝ }
-    ensures { λ r. ⌜ Image (Star (Then (reach (nodes (now (roll .entry))) (facing course (pathAt (entries (now (table .entry))) e))) (AlongAny (nodes (now (roll .entry))) axes))) from r ⌝ }
+    ensures { λ r. ⌜ Sources (nodes (now (roll .entry))) (facing course (pathAt (entries (now (table .entry))) e)) from r ⌝ }
 {
     let here = image(roll, links, table, known, held, e, course, from);
-    let reached = step(roll, links, axes, here);
-    if is_empty(difference(reached, from)) {
-        return from;
+    if is_empty(here) {
+        return here;
     }
     let all = below(count(roll));
-    let sources = image(roll, links, table, known, held, e, course, all);
-    closure(roll, links, axes, sources, from)
-}
-
-// The star of a step along the axes and then the filter of entry e.
-fn filter_last(
-    roll: &[u8],
-    links: &[u16; 8192],
-    table: &[u8],
-    known: usize,
-    held: &[u64; 64],
-    e: usize,
-    axes: Axes,
-    course: Course,
-    from: [u64; 64],
-) -> [u64; 64]
-    requires { ⌜ Knowing (now roll) (now table) (now links) known (now held) × Asked (now roll) (now table) path e from ⌝ }
-    requires { ⌜ Still (facing course (pathAt (entries (now table)) e)) ⌝ }
-    ensures { λ r. ⌜ Image (Star (Then (AlongAny (nodes (now (roll .entry))) axes) (reach (nodes (now (roll .entry))) (facing course (pathAt (entries (now (table .entry))) e))))) from r ⌝ }
-{
-    let begun = step(roll, links, axes, from);
-    let reached = image(roll, links, table, known, held, e, course, begun);
-    if is_empty(difference(reached, from)) {
-        return from;
-    }
-    let all = below(count(roll));
-    let sources = image(roll, links, table, known, held, e, course, all);
-    let ends = closure(roll, links, axes, sources, begun);
-    union(from, common(ends, sources))
+    image(roll, links, table, known, held, e, course, all)
 }
 
 // What the path of entry e reaches in zero or more goes, by rounds: it goes on from what is new in the last one, until nothing is.

@@ -3,8 +3,7 @@
 use Prim.Native.Nat.{ℕ, _+_, _*_}
 use borrow.Fn.PlainCycle.{Measures}
 use Rattle.evaluator.proofs.by_rounds.Kinds as by-rounds-kinds
-use Rattle.evaluator.proofs.filter_first.Kinds as filter-first-kinds
-use Rattle.evaluator.proofs.filter_last.Kinds as filter-last-kinds
+use Rattle.evaluator.proofs.sources.Kinds as sources-kinds
 use Rattle.evaluator.proofs.image.Kinds as image-kinds
 use Rattle.evaluator.proofs.narrow.Kinds as narrow-kinds
 use Rattle.evaluator.proofs.of_two.Kinds as of-two-kinds
@@ -13,11 +12,8 @@ use Rattle.evaluator.proofs.star.Kinds as star-kinds
 abbrev pub μ-by-rounds : Measures 4 by-rounds-kinds.ps ℕ
 μ-by-rounds κs a = 4 * a .1 .1 .1 .1 .1 .0 + 1
 
-abbrev pub μ-filter-first : Measures 4 filter-first-kinds.ps ℕ
-μ-filter-first κs a = 4 * a .1 .1 .1 .1 .1 .0 + 1
-
-abbrev pub μ-filter-last : Measures 4 filter-last-kinds.ps ℕ
-μ-filter-last κs a = 4 * a .1 .1 .1 .1 .1 .0 + 1
+abbrev pub μ-sources : Measures 4 sources-kinds.ps ℕ
+μ-sources κs a = 4 * a .1 .1 .1 .1 .1 .0 + 1
 
 abbrev pub μ-image : Measures 4 image-kinds.ps ℕ
 μ-image κs a = 4 * a .1 .1 .1 .1 .1 .0

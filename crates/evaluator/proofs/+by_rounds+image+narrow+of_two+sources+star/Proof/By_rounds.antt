@@ -21,8 +21,8 @@ use Rattle.evaluator.specs.Course.{facing}
 use Rattle.evaluator.specs.Evaluator.{Knowing, Asked}
 use Rattle.evaluator.proofs.Rounds.{Rounds, first-round, next-round, round-adds, last-round}
 use Rattle.evaluator.proofs.Walks.{walk-stays}
-use Rattle.evaluator.proofs.+by_rounds+filter_first+filter_last+image+narrow+of_two+star.Proof.Measures.{μ-by-rounds, μ-image}
-use Rattle.evaluator.proofs.+by_rounds+filter_first+filter_last+image+narrow+of_two+star.Lts-by_rounds as lts
+use Rattle.evaluator.proofs.+by_rounds+image+narrow+of_two+sources+star.Proof.Measures.{μ-by-rounds, μ-image}
+use Rattle.evaluator.proofs.+by_rounds+image+narrow+of_two+sources+star.Lts-by_rounds as lts
 use Rattle.evaluator.proofs.image.Reads as image
 use Rattle.evaluator.proofs.by_rounds.Reads as by-rounds
 use Rattle.sets.proofs.empty.Reads as empty

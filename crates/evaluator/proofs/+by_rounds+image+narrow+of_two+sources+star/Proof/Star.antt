@@ -16,8 +16,8 @@ use Rattle.evaluator.proofs.Images.{image-star}
 use Rattle.evaluator.proofs.Walks.{walk-star-star}
 use Rattle.evaluator.proofs.Operands.{Read, operand, is-star}
 use Rattle.evaluator.proofs.Stepping.{star-of-steps}
-use Rattle.evaluator.proofs.+by_rounds+filter_first+filter_last+image+narrow+of_two+star.Proof.Measures.{μ-by-rounds, μ-of-two, μ-star}
-use Rattle.evaluator.proofs.+by_rounds+filter_first+filter_last+image+narrow+of_two+star.Lts-star as lts
+use Rattle.evaluator.proofs.+by_rounds+image+narrow+of_two+sources+star.Proof.Measures.{μ-by-rounds, μ-of-two, μ-star}
+use Rattle.evaluator.proofs.+by_rounds+image+narrow+of_two+sources+star.Lts-star as lts
 use Rattle.evaluator.proofs.of_two.Reads as of-two
 use Rattle.evaluator.proofs.star.Reads as star
 use Rattle.evaluator.proofs.by_rounds.Reads as by-rounds

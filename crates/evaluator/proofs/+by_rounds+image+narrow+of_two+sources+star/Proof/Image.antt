@@ -28,8 +28,8 @@ use Rattle.evaluator.specs.Evaluator.{Knowing, Asked}
 use Rattle.evaluator.proofs.Images.{Stays, image-empty, image-inside, image-same, image-then}
 use Rattle.evaluator.proofs.Operands.{Read, none-behind, operand, operand-below, is-self, is-axis, is-stay, is-then, is-either, is-star}
 use Rattle.evaluator.proofs.Walks.{walk-stays, walk-self, walk-free, walk-stay, walk-either, walk-star, then-parts}
-use Rattle.evaluator.proofs.+by_rounds+filter_first+filter_last+image+narrow+of_two+star.Proof.Measures.{μ-image, μ-narrow, μ-star}
-use Rattle.evaluator.proofs.+by_rounds+filter_first+filter_last+image+narrow+of_two+star.Lts-image as lts
+use Rattle.evaluator.proofs.+by_rounds+image+narrow+of_two+sources+star.Proof.Measures.{μ-image, μ-narrow, μ-star}
+use Rattle.evaluator.proofs.+by_rounds+image+narrow+of_two+sources+star.Lts-image as lts
 use Rattle.evaluator.proofs.narrow.Reads as narrow
 use Rattle.evaluator.proofs.image.Reads as image
 use Rattle.evaluator.proofs.star.Reads as star

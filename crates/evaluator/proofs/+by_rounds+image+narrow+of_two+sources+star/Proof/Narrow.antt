@@ -25,8 +25,8 @@ use Rattle.evaluator.proofs.Images.{Stays, image-inside, narrowed-insid
 use Rattle.evaluator.proofs.Filters.{narrow-empty, narrow-known, narrow-always, narrow-never, narrow-leads, narrow-not, narrow-and, narrow-or}
 use Rattle.evaluator.proofs.Operands.{Read, operand-below, is-labelled, is-leads, is-always, is-never, is-not, is-and, is-or}
 use Rattle.evaluator.proofs.Walks.{walk-stays}
-use Rattle.evaluator.proofs.+by_rounds+filter_first+filter_last+image+narrow+of_two+star.Proof.Measures.{μ-image, μ-narrow}
-use Rattle.evaluator.proofs.+by_rounds+filter_first+filter_last+image+narrow+of_two+star.Lts-narrow as lts
+use Rattle.evaluator.proofs.+by_rounds+image+narrow+of_two+sources+star.Proof.Measures.{μ-image, μ-narrow}
+use Rattle.evaluator.proofs.+by_rounds+image+narrow+of_two+sources+star.Lts-narrow as lts
 use Rattle.evaluator.proofs.image.Reads as image
 use Rattle.evaluator.proofs.narrow.Reads as narrow
 use Rattle.sets.proofs.is_empty.Reads as is-empty
