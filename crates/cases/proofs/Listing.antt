@@ -11,10 +11,10 @@ use Rattle.query.specs.Syntax.{Filter}
 use Rattle.query.specs.Table.{entryBytes}
 use Rattle.text.specs.Grammar.{FilterText}
 use Rattle.text.specs.Written.{filterEntries}
-use Rattle.reading.proofs.Rules.{got, stopped, FilterReads}
-use Rattle.reading.proofs.Sound.{span, heard}
-use Rattle.reading.proofs.Deciding as reading
-use Rattle.reading.proofs.Deciding.{Reading, no-steps, readFilter}
+use Rattle.derivation.proofs.Rules.{got, stopped, FilterReads}
+use Rattle.derivation.proofs.Sound.{span, heard}
+use Rattle.derivation.proofs.Deciding as reading
+use Rattle.derivation.proofs.Deciding.{Reading, no-steps, readFilter}
 use Rattle.cases.specs.Cases.{Pair, Listed, none, one}
 use Rattle.cases.proofs.Tests.{sameList, sameNumbers, same-numbers}
 

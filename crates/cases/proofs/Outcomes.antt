@@ -15,10 +15,10 @@ use Rattle.query.specs.Meaning.{reach}
 use Rattle.query.specs.Fault.{curators, Query}
 use Rattle.text.specs.Written.{tableOf}
 use Rattle.text.specs.Promise.{TextOf, TextFault, TextRead}
-use Rattle.reading.proofs.Back.{table-back, query-back}
+use Rattle.derivation.proofs.Back.{table-back, query-back}
 use Rattle.query.proofs.Bytes.{bytes-length}
-use Rattle.reading.proofs.Accepted.{text-query}
-use Rattle.reading.proofs.Unique.{text-read-one}
+use Rattle.derivation.proofs.Accepted.{text-query}
+use Rattle.derivation.proofs.Unique.{text-read-one}
 use Rattle.answer.specs.Bitmap.{Bitmap, SetGiven}
 use Rattle.sets.specs.Bits.{ones}
 use Rattle.answer.proofs.Drawn.{drawn, drawn-right}

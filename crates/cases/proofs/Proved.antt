@@ -19,10 +19,10 @@ use Rattle.query.specs.Table.{entries, height, heightAt, operandHeight}
 use Rattle.query.proofs.Answers.{members, members-right, answer, answer-right}
 use Rattle.text.specs.Written.{pathEntries, tableOf}
 use Rattle.text.specs.Promise.{TextLength, Fits, TextFault}
-use Rattle.reading.proofs.Rules.{Result, got, stopped, broken, deep, PathReads}
-use Rattle.reading.proofs.Deciding as reading
-use Rattle.reading.proofs.Deciding.{Reading, no-steps, readText}
-use Rattle.reading.proofs.Judged.{Judged, read, not-whole, judged, read-whole}
+use Rattle.derivation.proofs.Rules.{Result, got, stopped, broken, deep, PathReads}
+use Rattle.derivation.proofs.Deciding as reading
+use Rattle.derivation.proofs.Deciding.{Reading, no-steps, readText}
+use Rattle.derivation.proofs.Judged.{Judged, read, not-whole, judged, read-whole}
 use Rattle.answer.specs.Bitmap.{}
 use Rattle.sets.specs.Bits.{ones}
 use Rattle.view.specs.Annotation.{records}

@@ -10,8 +10,8 @@ use Rattle.query.specs.Syntax.{Path}
 use Rattle.query.specs.Table.{entryBytes}
 use Rattle.text.specs.Written.{tableOf}
 use Rattle.text.specs.Promise.{TextOf}
-use Rattle.reading.proofs.Place.{path-unique}
-use Rattle.reading.proofs.Unique.{text-one, text-wrong}
+use Rattle.derivation.proofs.Place.{path-unique}
+use Rattle.derivation.proofs.Unique.{text-one, text-wrong}
 use Rattle.curator.specs.Promise.{CuratorAnswered}
 use Rattle.curator.proofs.Unique.{curator-answered-one}
 use Rattle.lines.specs.Line.{lineOf}

@@ -1,6 +1,6 @@
 // The readers of paths and filters, which call each other through brackets. Each reads from the place `at` with `depth` brackets open, and
 // writes the entries of what it reads behind the `count` entries of the table.
-use reading::Bracket;
+use derivation::Bracket;
 use reply::OPEN_BRACKETS;
 use tables::ALWAYS;
 use tables::LEADS;
@@ -26,13 +26,13 @@ use tokens::past_nots;
 use tokens::put;
 ghost use mathlib.Core.Path.{_≡_};
 ghost use lib.ListN.{getD};
-ghost use Rattle.reading.proofs.Parts.{openingByte};
-ghost use Rattle.tokens.specs.Reading.{Ready, Follows, paths, filters, items, atoms, terms, brackets};
+ghost use Rattle.derivation.proofs.Parts.{openingByte};
+ghost use Rattle.tokens.specs.Reading.{RoomAhead, Follows, paths, filters, items, atoms, terms, brackets};
 ghost use Rattle.tokens.specs.Reading.{outerChain, innerChain, chains, links};
 
 // "path: sequences joined by `|`"
 pub fn path(text: &[u8], at: usize, depth: usize, table: &mut [u8], count: usize) -> Parsed
-    requires { ⌜ Ready (now text) at (now table) count ⌝ }
+    requires { ⌜ RoomAhead (now text) at (now table) count ⌝ }
     ensures { λ r. ⌜ Follows paths depth (now (text .entry)) at (now (table .entry)) count r (now (table .exit)) ⌝ }
 {
     chained(text, at, depth, table, count, Sort::Path)
@@ -40,7 +40,7 @@ pub fn path(text: &[u8], at: usize, depth: usize, table: &mut [u8], count: usize
 
 // "filter: conjunctions joined by `+`"
 fn filter(text: &[u8], at: usize, depth: usize, table: &mut [u8], count: usize) -> Parsed
-    requires { ⌜ Ready (now text) at (now table) count ⌝ }
+    requires { ⌜ RoomAhead (now text) at (now table) count ⌝ }
     ensures { λ r. ⌜ Follows filters depth (now (text .entry)) at (now (table .entry)) count r (now (table .exit)) ⌝ }
 {
     chained(text, at, depth, table, count, Sort::Filter)
@@ -49,7 +49,7 @@ fn filter(text: &[u8], at: usize, depth: usize, table: &mut [u8], count: usize) 
 // The links of a path or of a filter. Two bytes join them, and the one of the inner chain binds closer; both group to the left. What is
 // read of the inner chain begins with the entry `begun`, and the next link with the entry `left`.
 fn chained(text: &[u8], at: usize, depth: usize, table: &mut [u8], count: usize, of: Sort) -> Parsed
-    requires { ⌜ Ready (now text) at (now table) count ⌝ }
+    requires { ⌜ RoomAhead (now text) at (now table) count ⌝ }
     ensures { λ r. ⌜ Follows (chains (outerChain of)) depth (now (text .entry)) at (now (table .entry)) count r (now (table .exit)) ⌝ }
 {
     let mut next = at;
@@ -84,7 +84,7 @@ fn chained(text: &[u8], at: usize, depth: usize, table: &mut [u8], count: usize,
 
 // One link of the inner chain: an item of a path, a term of a filter.
 fn link(text: &[u8], at: usize, depth: usize, table: &mut [u8], count: usize, sort: Sort) -> Parsed
-    requires { ⌜ Ready (now text) at (now table) count ⌝ }
+    requires { ⌜ RoomAhead (now text) at (now table) count ⌝ }
     ensures { λ r. ⌜ Follows (links (innerChain sort)) depth (now (text .entry)) at (now (table .entry)) count r (now (table .exit)) ⌝ }
 {
     match sort {
@@ -95,7 +95,7 @@ fn link(text: &[u8], at: usize, depth: usize, table: &mut [u8], count: usize, so
 
 // "Item: an atom and any number of `*`"
 fn item(text: &[u8], at: usize, depth: usize, table: &mut [u8], count: usize) -> Parsed
-    requires { ⌜ Ready (now text) at (now table) count ⌝ }
+    requires { ⌜ RoomAhead (now text) at (now table) count ⌝ }
     ensures { λ r. ⌜ Follows items depth (now (text .entry)) at (now (table .entry)) count r (now (table .exit)) ⌝ }
 {
     let first = atom(text, at, depth, table, count);
@@ -119,7 +119,7 @@ fn item(text: &[u8], at: usize, depth: usize, table: &mut [u8], count: usize) ->
 
 // "atom: `.` self, `v` child, `^` parent, `>` next, `<` previous, `[` filter `]`, `(` path `)`"
 fn atom(text: &[u8], at: usize, depth: usize, table: &mut [u8], count: usize) -> Parsed
-    requires { ⌜ Ready (now text) at (now table) count ⌝ }
+    requires { ⌜ RoomAhead (now text) at (now table) count ⌝ }
     ensures { λ r. ⌜ Follows atoms depth (now (text .entry)) at (now (table .entry)) count r (now (table .exit)) ⌝ }
 {
     let byte = byte_at(text, at);
@@ -146,7 +146,7 @@ fn bracketed(
     count: usize,
     bracket: Bracket,
 ) -> Parsed
-    requires { ⌜ Ready (now text) at (now table) count × (getD (now text) at 0 ≡ openingByte bracket) ⌝ }
+    requires { ⌜ RoomAhead (now text) at (now table) count × (getD (now text) at 0 ≡ openingByte bracket) ⌝ }
     ensures { λ r. ⌜ Follows (brackets bracket) depth (now (text .entry)) at (now (table .entry)) count r (now (table .exit)) ⌝ }
 {
     if depth >= OPEN_BRACKETS {
@@ -161,7 +161,7 @@ fn bracketed(
 
 // "Term: `!` term, `t`, `f`, `#` and a label, `{` filter `}`, or a path". The `!` in front are passed, and their entries written last.
 fn term(text: &[u8], at: usize, depth: usize, table: &mut [u8], count: usize) -> Parsed
-    requires { ⌜ Ready (now text) at (now table) count ⌝ }
+    requires { ⌜ RoomAhead (now text) at (now table) count ⌝ }
     ensures { λ r. ⌜ Follows terms depth (now (text .entry)) at (now (table .entry)) count r (now (table .exit)) ⌝ }
 {
     let mut next = past_nots(text, at);
@@ -175,7 +175,7 @@ fn term(text: &[u8], at: usize, depth: usize, table: &mut [u8], count: usize) ->
 
 // A term that begins with no `!`.
 fn plain(text: &[u8], at: usize, depth: usize, table: &mut [u8], count: usize) -> Parsed
-    requires { ⌜ Ready (now text) at (now table) count × (getD (now text) at 0 ≡ 33 → ⊥) ⌝ }
+    requires { ⌜ RoomAhead (now text) at (now table) count × (getD (now text) at 0 ≡ 33 → ⊥) ⌝ }
     ensures { λ r. ⌜ Follows terms depth (now (text .entry)) at (now (table .entry)) count r (now (table .exit)) ⌝ }
 {
     let byte = byte_at(text, at);

@@ -22,11 +22,11 @@ use Rattle.tables.specs.Promise.{QueryChecked}
 use Rattle.text.specs.Grammar.{PathText}
 use Rattle.text.specs.Written.{tableOf}
 use Rattle.text.specs.Promise.{TextLength, OneTooMany, TextFault, too-large, TextOf, TextRead}
-use Rattle.reading.proofs.Back.{table-back}
-use Rattle.reading.proofs.Accepted.{fits-query, query-fits}
+use Rattle.derivation.proofs.Back.{table-back}
+use Rattle.derivation.proofs.Accepted.{fits-query, query-fits}
 use Rattle.tokens.specs.declared.answer.Parsed.{Parsed}
 use Rattle.tokens.specs.declared.answer.Parsed.the-variants.{Got, Broken, Deep}
-use Rattle.reader.specs.Reader.{Parses, parses, breaks-off, too-many-open, Answered}
+use Rattle.reader.specs.Reader.{Parses, parses, breaks-off, too-many-open, WrittenOut}
 
 -- a check that counts says that the table is a query
 query-counted : {table : Bytes} {c : ℕ} {r : Reply} → r ≡ Count c → QueryChecked curators table (said r)
@@ -42,7 +42,7 @@ module _ {table : Bytes} (before : Bytes) where
 
   -- it is written
   pub written-out : {c : ℕ} {r : Reply} {after : Bytes} → r ≡ Count c → QueryChecked curators table (said r) → 1536 ≤ length before
-      → after ≡ take (length table) table ++ drop (length table) before → Answered table before (count c) after
+      → after ≡ take (length table) table ++ drop (length table) before → WrittenOut table before (count c) after
   written-out e x room copied =
       let (query, size) = query-counted e x in
       done zero-le query (
@@ -55,7 +55,7 @@ module _ {table : Bytes} (before : Bytes) where
 
   -- a check that refuses says that it is no query
   pub refused-out : (r : Reply) {s : Said} → OneOf (1 ∷ []) (tagOf the-reply.the-type r) → QueryChecked curators table (said r)
-      → s ≡ refused 16 0 → Answered table before s before
+      → s ≡ refused 16 0 → WrittenOut table before s before
   refused-out (Count c) no-such x e = absurd (omega arith)
   refused-out (Refused f) u x e =
       let no-query : ¬ Query curators table = query-wrong curators table (number (f .reason)) (f .place) (faulted x) in
@@ -109,7 +109,7 @@ module _ (text before : Bytes) where
 
     -- the text is read, or its table is too large
     pub text-told : {p : Parsed} {at n : ℕ} {table after : Bytes} {s : Said} → TextLength text → p ≡ Got at n → Parses text p table
-        → Answered (take (6 * n) table) before s after → TextRead text before s after
+        → WrittenOut (take (6 * n) table) before s after → TextRead text before s after
     unfolding TextRead
     text-told {n = n} {after = after} {s = s} right e x a = go (rw (found .front) at a)
       where
@@ -119,7 +119,7 @@ module _ (text before : Bytes) where
         short-table : length (tableOf (found .path)) ≤ 65536
         short-table = omega (arith, found .few, found .count)
 
-        go : {s : Said} {after : Bytes} → Answered (entryBytes (tableOf (found .path))) before s after → TextRead text before s after
+        go : {s : Said} {after : Bytes} → WrittenOut (entryBytes (tableOf (found .path))) before s after → TextRead text before s after
         go (done z query made) =
             let right-text : TextOf (found .path) text =
             record {

@@ -11,9 +11,9 @@ use Rattle.query.specs.Table.{entryBytes}
 use Rattle.text.specs.Grammar.{PathText}
 use Rattle.text.specs.Written.{tableOf, pathEntries}
 use Rattle.text.specs.Promise.{TextLength, OneTooMany, TextFault}
-use Rattle.reading.proofs.Rules.{Stop, got, stopped, PathReads}
-use Rattle.reading.proofs.Rules as rules
-use Rattle.reading.proofs.Judged.{Judged, read, not-whole, broken, deep, judged}
+use Rattle.derivation.proofs.Rules.{Stop, got, stopped, PathReads}
+use Rattle.derivation.proofs.Rules as rules
+use Rattle.derivation.proofs.Judged.{Judged, read, not-whole, broken, deep, judged}
 use Rattle.tokens.specs.declared.answer.Parsed.{Parsed}
 use Rattle.tokens.specs.declared.answer.Parsed.the-variants.{Got, Broken}
 use Rattle.tokens.specs.Reading.{StopsAt, broken-at, deep-at, Follows, follows, stops, paths}

@@ -24,7 +24,7 @@ pub data Parses (text : Bytes) : Parsed → Bytes → Type 0 where
   too-many-open : {i : ℕ} {after : Bytes} → TextFault text 15 i → Parses text (Deep i) after
 
 -- The table is written into the room if it is a curator's query, and refused with 16 if not.
-abbrev pub Answered : Bytes → Bytes → Said → Bytes → Type 0
-Answered table before said after =
+abbrev pub WrittenOut : Bytes → Bytes → Said → Bytes → Type 0
+WrittenOut table before said after =
     Outcome 0 (Query curators table) (λ n p. (n ≡ 16) × (p ≡ 0) × ¬ Query curators table)
     (λ c front. (c ≡ length (entries table)) × Written before table front) before said after

@@ -14,7 +14,7 @@ ghost use Prim.Native.Nat.{_*_, _≤_};
 ghost use lib.ListN.{length};
 ghost use Rattle.reply.specs.Reply.{said};
 ghost use Rattle.text.specs.Promise.{TextLength, TextRead};
-ghost use Rattle.reader.specs.Reader.{Parses, Answered};
+ghost use Rattle.reader.specs.Reader.{Parses, WrittenOut};
 
 // Two entries of six bytes for each byte of a text: no text writes more.
 const TABLE: usize = 12 * TEXT_BYTES;
@@ -42,7 +42,7 @@ fn read_whole(text: &[u8], table: &mut [u8]) -> Parsed
 // The table of a text in the grammar, written out if it is within the curator's limits.
 fn write_out(table: &[u8], room: &mut [u8]) -> Reply
     requires { ⌜ 1536 ≤ length (now room) ⌝ }
-    ensures { λ r. ⌜ Answered (now (table .entry)) (now (room .entry)) (said r) (now (room .exit)) ⌝ }
+    ensures { λ r. ⌜ WrittenOut (now (table .entry)) (now (room .entry)) (said r) (now (room .exit)) ⌝ }
 {
     let checked = check_query(table, CURATOR_ENTRIES, CURATOR_HEIGHT);
     let Reply::Count(count) = checked else {

@@ -8,9 +8,9 @@ use Rattle.view.specs.Annotation.{rules}
 use Rattle.view.specs.Visible.{root}
 use Rattle.view.specs.Promise.{Seen}
 use Rattle.view.proofs.Deciding.{dec-visible}
-use Rattle.rewriting.proofs.Rewriting.{rewritten}
-use Rattle.rewriting.proofs.VisibleFilter.{visibleBy, visible-right}
-use Rattle.rewriting.proofs.Theorem.{faithful}
+use Rattle.theorem.proofs.Rewriting.{rewritten}
+use Rattle.theorem.proofs.VisibleFilter.{visibleBy, visible-right}
+use Rattle.theorem.proofs.Theorem.{faithful}
 use Rattle.rewrite.specs.Promise.{Faithful}
 
 -- who is visible, as a filter made from the annotation with no roll in hand

@@ -27,7 +27,7 @@ use Rattle.written.proofs.Back.{table-back}
 use Rattle.tables.specs.Laid.{laid}
 use Rattle.writer.specs.Laid.{Room, LabelBytes, Numbers, AllInOrder}
 use Rattle.writer.proofs.Recording.{written-size}
-use Rattle.rewriting.proofs.VisibleFilter.{visible-right}
+use Rattle.theorem.proofs.VisibleFilter.{visible-right}
 use Rattle.rewrite.specs.Promise.{Faithful, Rewritten}
 use Rattle.rewrite.specs.Visible.{visibleEntry, VisibleTold}
 use Rattle.rewrite.proofs.Given.{table-front}

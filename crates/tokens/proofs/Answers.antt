@@ -8,7 +8,7 @@ use lib.ListN.{length, getD}
 use denote.Enum.Declared.{tagOf}
 use types.Run.{OneOf}
 use Rattle.reply.specs.Bytes.{Bytes}
-use Rattle.reading.proofs.Rules.{Stop, broken, deep}
+use Rattle.derivation.proofs.Rules.{Stop, broken, deep}
 use Rattle.tokens.specs.declared.answer.Parsed.{Parsed}
 use Rattle.tokens.specs.declared.answer.Parsed.the-variants.{Got, Broken, Deep}
 use Rattle.tokens.specs.Reading.{StopsAt, broken-at, deep-at, RoomBehind, Behind, behind, Added, one, placeOf, Closed, closed-by}

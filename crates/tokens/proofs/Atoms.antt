@@ -9,9 +9,9 @@ use lib.ListN.{length, getD, drop}
 use Rattle.reply.specs.Bytes.{Bytes}
 use Rattle.query.specs.Syntax.{Path, self, child, parent, next, previous, stay}
 use Rattle.text.specs.Written.{pathEntries}
-use Rattle.reading.specs.declared.Bracket.the-variants as bracket
-use Rattle.reading.proofs.Rules.{got, atomBytes, AtomReads}
-use Rattle.reading.proofs.Rules as rules
+use Rattle.derivation.specs.declared.Bracket.the-variants as bracket
+use Rattle.derivation.proofs.Rules.{got, atomBytes, AtomReads}
+use Rattle.derivation.proofs.Rules as rules
 use Rattle.tokens.specs.declared.answer.Parsed.{Parsed}
 use Rattle.tokens.specs.declared.answer.Parsed.the-variants.{Got, Broken}
 use Rattle.tokens.specs.Reading.{one, mostOpen, Added, broken-at, Follows, stops, atoms, brackets, Behind, AxisOf, dot, letter-v}

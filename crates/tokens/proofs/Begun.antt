@@ -5,14 +5,14 @@ use mathlib.Core.Path.{_≡_, refl}
 use native.Mathlib.Nat.{le-refl}
 use lib.ListN.{length, getD}
 use Rattle.reply.specs.Bytes.{Bytes}
-use Rattle.reading.specs.declared.Chain.{Chain}
-use Rattle.reading.proofs.Parts.{Joined, joining}
-use Rattle.reading.proofs.Rules as rules
+use Rattle.derivation.specs.declared.Chain.{Chain}
+use Rattle.derivation.proofs.Parts.{Joined, joining}
+use Rattle.derivation.proofs.Rules as rules
 use Rattle.tokens.specs.declared.answer.Parsed.{Parsed}
 use Rattle.tokens.specs.declared.answer.Parsed.the-variants.{Got}
 use Rattle.tokens.specs.declared.kind.Sort.{Sort}
 use Rattle.tokens.specs.declared.kind.Sort.the-variants as sort
-use Rattle.tokens.specs.Reading.{Stands, Follows, Ready, joinedEntries, joinedSpare, chains, links}
+use Rattle.tokens.specs.Reading.{Recorded, Follows, RoomAhead, joinedEntries, joinedSpare, chains, links}
 use Rattle.tokens.specs.Reading.{outerChain, innerChain, Joins, alone, both}
 use Rattle.tokens.proofs.Places.{inside}
 use Rattle.tokens.proofs.Answers.{Failed}
@@ -57,15 +57,15 @@ module _ (c : Chain) {k : ℕ} {text : Bytes} {at : ℕ} {before : Bytes} {n : �
 
   -- the reader is ready there
   pub begun-ready : {next m : ℕ} {mid : Bytes}
-      → Ready text at before n → length mid ≡ length before → Begun c k text at before n next m mid → Ready text next mid m
+      → RoomAhead text at before n → length mid ≡ length before → Begun c k text at before n next m mid → RoomAhead text next mid m
   begun-ready r e first = r
   begun-ready r e (further {next = place} g j) =
       ready-after r (g .stands) e (inside text place (rw j (joint-seen c)))
 
   -- where a link was joined, there is room for the entry that joins it
   pub room-to-join : {next m : ℕ} {mid : Bytes} {x : Joined c} {to l : ℕ} {after : Bytes}
-      → Ready text at before n → Begun c k text at before n next m mid
-      → Stands (joinedEntries c) (joinedSpare c) text next mid m x to l after → n < m → 6 * (l + 1) ≤ length before
+      → RoomAhead text at before n → Begun c k text at before n next m mid
+      → Recorded (joinedEntries c) (joinedSpare c) text next mid m x to l after → n < m → 6 * (l + 1) ≤ length before
   room-to-join r first st s = absurd (omega arith)
   room-to-join r (further g j) st s =
       let room = r .room in

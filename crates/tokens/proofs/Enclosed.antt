@@ -9,11 +9,11 @@ use lib.ListN.{length, getD, drop}
 use denote.Enum.Declared.{tagOf}
 use types.Run.{OneOf}
 use Rattle.reply.specs.Bytes.{Bytes}
-use Rattle.reading.specs.declared.Bracket.{Bracket}
-use Rattle.reading.specs.declared.Bracket.the-variants.{Square, Round, Curly}
-use Rattle.reading.proofs.Bracket as the-bracket
-use Rattle.reading.proofs.Parts.{Joined, inside, openingByte, closingByte}
-use Rattle.reading.proofs.Rules.{Result, BracketReads, closed, stays-open, inside-stops, too-deep}
+use Rattle.derivation.specs.declared.Bracket.{Bracket}
+use Rattle.derivation.specs.declared.Bracket.the-variants.{Square, Round, Curly}
+use Rattle.derivation.proofs.Bracket as the-bracket
+use Rattle.derivation.proofs.Parts.{Joined, inside, openingByte, closingByte}
+use Rattle.derivation.proofs.Rules.{Result, BracketReads, closed, stays-open, inside-stops, too-deep}
 use Rattle.tokens.specs.declared.answer.Parsed.{Parsed}
 use Rattle.tokens.specs.declared.answer.Parsed.the-variants.{Deep}
 use Rattle.tokens.specs.Reading.{paths, filters, chains, brackets, mostOpen, broken-at, deep-at, Follows, follows, stops, Closed}

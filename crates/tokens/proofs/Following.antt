@@ -6,10 +6,10 @@ use mathlib.Core.List.{_++_}
 use lib.ListN.{length, drop, length-append}
 use Rattle.reply.specs.Bytes.{Bytes}
 use Rattle.query.specs.Table.{Entries}
-use Rattle.reading.proofs.Rules.{Stop, got, stopped}
+use Rattle.derivation.proofs.Rules.{Stop, got, stopped}
 use Rattle.tokens.specs.declared.answer.Parsed.{Parsed}
 use Rattle.tokens.specs.declared.answer.Parsed.the-variants.{Got}
-use Rattle.tokens.specs.Reading.{Line, one, Added, Stands, StopsAt, broken-at, deep-at, Follows, follows, stops, Ready, placeOf}
+use Rattle.tokens.specs.Reading.{Line, one, Added, Recorded, StopsAt, broken-at, deep-at, Follows, follows, stops, RoomAhead, placeOf}
 use Rattle.tokens.specs.Reading.{RoomBehind, Behind, behind, passed-on}
 use Rattle.tokens.proofs.Entries.{added-on}
 
@@ -30,7 +30,7 @@ stop-room t deep-at = tt
 -- something is read by the line from `at` up to `to`, and stands in the table
 abbrev pub Found : Line → ℕ → Bytes → ℕ → Bytes → ℕ → ℕ → ℕ → Bytes → Type 0
 Found line k text at before n to m after =
-    (x : line .Thing) × line .reads k (drop at text) (got x (drop to text)) × Stands (line .written) (line .spare) text at before n x to m after
+    (x : line .Thing) × line .reads k (drop at text) (got x (drop to text)) × Recorded (line .written) (line .spare) text at before n x to m after
 
 module _ {line : Line} {k : ℕ} {text : Bytes} {at : ℕ} {before after : Bytes} {n : ℕ} where
   -- an answer's place is in the text
@@ -64,7 +64,7 @@ module _ {line : Line} {k : ℕ} {text : Bytes} {at : ℕ} {before after : Bytes
       }))
 
   -- behind what was read from `from`, at or behind `at`, there is room for one more entry
-  pub room-after : {from : ℕ} {p : Parsed} → Follows line k text from before n p after → Ready text at before n → at ≤ from
+  pub room-after : {from : ℕ} {p : Parsed} → Follows line k text from before n p after → RoomAhead text at before n → at ≤ from
       → 1 ≤ line .spare + 2 * (from - at)
       → length after ≡ length before → RoomBehind p after
   room-after (follows rd st) r l s e =
@@ -130,14 +130,14 @@ module _ {line outer : Line} (wrap : line .Thing → outer .Thing) {k j : ℕ} {
   wrapped writes s (stops st rd w) (passed-on again) = stops st (turns .halts rd) w
 
 -- behind a byte of the text the reader is ready again
-pub ready-on : {text : Bytes} {at : ℕ} {table : Bytes} {n : ℕ} → Ready text at table n → at < length text → Ready text (at + 1) table n
+pub ready-on : {text : Bytes} {at : ℕ} {table : Bytes} {n : ℕ} → RoomAhead text at table n → at < length text → RoomAhead text (at + 1) table n
 ready-on r l = let s = r .room in record { within = omega arith; room = omega arith }
 
 -- where a thing stands, the reader is ready behind one more byte
 pub ready-after : {A : Type 0} {written : ℕ → A → Entries} {spare : ℕ} {text : Bytes} {at : ℕ} {before : Bytes} {n : ℕ} {x : A}
     {to m : ℕ} {after : Bytes}
-    → Ready text at before n → Stands written spare text at before n x to m after → length after ≡ length before → to < length text
-    → Ready text (to + 1) after m
+    → RoomAhead text at before n → Recorded written spare text at before n x to m after → length after ≡ length before → to < length text
+    → RoomAhead text (to + 1) after m
 ready-after r st e l =
     let a = r .room in
     let b = st .few in

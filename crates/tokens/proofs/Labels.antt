@@ -8,8 +8,8 @@ use lib.ListN.{length, getD, drop}
 use denote.Enum.Declared.{tagOf}
 use types.Run.{OneOf}
 use Rattle.reply.specs.Bytes.{Bytes}
-use Rattle.reading.proofs.Rules.{got, NoSecond, NoDigit, LabelReads, one-digit, two-digits, no-digit}
-use Rattle.reading.proofs.Rules as rules
+use Rattle.derivation.proofs.Rules.{got, NoSecond, NoDigit, LabelReads, one-digit, two-digits, no-digit}
+use Rattle.derivation.proofs.Rules as rules
 use Rattle.tokens.specs.Label.{DigitOf, digit, too-low, too-high, LabelAt, number, nothing}
 use Rattle.tokens.specs.declared.label.Label.{Label}
 use Rattle.tokens.specs.declared.label.Label.the-variants.{Number, Nothing}

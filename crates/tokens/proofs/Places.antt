@@ -8,7 +8,7 @@ use mathlib.Core.List.{List, [], _∷_, List·Memᴰ, List·Memᴰ·head, List·
 use lib.ListN.{length, getD, drop, drop-of-length-le, List·getD-eq-default}
 use lib.Seq.{drop-cons}
 use Rattle.reply.specs.Bytes.{Bytes}
-use Rattle.reading.proofs.Rules.{NotAt, ended, other}
+use Rattle.derivation.proofs.Rules.{NotAt, ended, other}
 
 -- the unread text begins with the byte at the place
 pub begins : (text : Bytes) (at : ℕ) → at < length text → drop at text ≡ getD text at 0 ∷ drop (at + 1) text

@@ -8,7 +8,7 @@ use Rattle.reply.specs.Bytes.{Bytes}
 use Rattle.query.specs.Syntax.{Path, star}
 use Rattle.query.specs.Table.{Entries}
 use Rattle.text.specs.Written.{pathEntries}
-use Rattle.reading.proofs.Rules.{got, NotAt, StarsRead, one-more, no-more, item, item-stops}
+use Rattle.derivation.proofs.Rules.{got, NotAt, StarsRead, one-more, no-more, item, item-stops}
 use Rattle.tokens.specs.declared.answer.Parsed.{Parsed}
 use Rattle.tokens.specs.declared.answer.Parsed.the-variants.{Got}
 use Rattle.tokens.specs.Reading.{one, Added, Follows, follows, stops, items, atoms}

@@ -8,9 +8,9 @@ use lib.ListN.{length, getD, drop}
 use Rattle.reply.specs.Bytes.{Bytes}
 use Rattle.query.specs.Syntax.{Filter, labelled, leads, always, never, not}
 use Rattle.text.specs.Written.{filterEntries}
-use Rattle.reading.specs.declared.Bracket.the-variants as bracket
-use Rattle.reading.proofs.Rules.{got, NotAt, termBytes, TermReads}
-use Rattle.reading.proofs.Rules as rules
+use Rattle.derivation.specs.declared.Bracket.the-variants as bracket
+use Rattle.derivation.proofs.Rules.{got, NotAt, termBytes, TermReads}
+use Rattle.derivation.proofs.Rules as rules
 use Rattle.tokens.specs.declared.answer.Parsed.{Parsed}
 use Rattle.tokens.specs.declared.answer.Parsed.the-variants.{Got}
 use Rattle.tokens.specs.Reading.{Line, one, mostOpen, Added, Follows, paths, terms, labels, brackets, Behind}

@@ -3,7 +3,7 @@ use Prim.Native.Nat.{ℕ, _+_, _≤_, _<_}
 use mathlib.Core.Path.{_≡_}
 use lib.ListN.{length, drop}
 use Rattle.reply.specs.Bytes.{Bytes}
-use Rattle.reading.proofs.Rules.{broken, got, stopped, LabelReads}
+use Rattle.derivation.proofs.Rules.{broken, got, stopped, LabelReads}
 use Rattle.tokens.specs.declared.label.Label.{Label}
 use Rattle.tokens.specs.declared.label.Label.the-variants.{Number, Nothing}
 

@@ -9,11 +9,11 @@ use Rattle.query.specs.Syntax.{Path, Filter}
 use Rattle.query.specs.Table.{Entries, entryBytes}
 use Rattle.tables.specs.Laid.{fields}
 use Rattle.text.specs.Written.{pathEntries, filterEntries}
-use Rattle.reading.specs.declared.Chain.{Chain}
-use Rattle.reading.specs.declared.Chain.the-variants as chain
-use Rattle.reading.specs.declared.Bracket.{Bracket}
-use Rattle.reading.proofs.Parts.{Joined, inside}
-use Rattle.reading.proofs.Rules.{Stop, broken, deep, Result, got, stopped, LabelReads, ChainReads, LinkReads, AtomReads, BracketReads}
+use Rattle.derivation.specs.declared.Chain.{Chain}
+use Rattle.derivation.specs.declared.Chain.the-variants as chain
+use Rattle.derivation.specs.declared.Bracket.{Bracket}
+use Rattle.derivation.proofs.Parts.{Joined, inside}
+use Rattle.derivation.proofs.Rules.{Stop, broken, deep, Result, got, stopped, LabelReads, ChainReads, LinkReads, AtomReads, BracketReads}
 use Rattle.tokens.specs.declared.answer.Parsed.{Parsed}
 use Rattle.tokens.specs.declared.answer.Parsed.the-variants.{Got, Broken, Deep}
 use Rattle.tokens.specs.declared.kind.Sort.{Sort}
@@ -40,7 +40,7 @@ pub record Added (before : Bytes) (n : ℕ) (es : Entries) (after : Bytes) : Typ
   pub front : take (6 * (n + length es)) after ≡ take (6 * n) before ++ entryBytes es
 
 -- x is read from `at` up to `to`, and its entries stand behind the n entries of the table, which now has m.
-pub record Stands {A : Type 0} (written : ℕ → A → Entries) (spare : ℕ) (text : Bytes) (at : ℕ) (before : Bytes) (n : ℕ) (x : A)
+pub record Recorded {A : Type 0} (written : ℕ → A → Entries) (spare : ℕ) (text : Bytes) (at : ℕ) (before : Bytes) (n : ℕ) (x : A)
     (to m : ℕ) (after : Bytes) : Type 0 where
   pub further : at < to
   pub some : n < m
@@ -57,13 +57,13 @@ pub data StopsAt : Parsed → Stop → ℕ → Type 0 where
 -- What reading from `at` with k brackets open comes to, where the table has n entries.
 pub data Follows (line : Line) (k : ℕ) (text : Bytes) (at : ℕ) (before : Bytes) (n : ℕ) : Parsed → Bytes → Type 0 where
   follows : {x : line .Thing} {to m : ℕ} {after : Bytes} → line .reads k (drop at text) (got x (drop to text))
-      → Stands (line .written) (line .spare) text at before n x to m after → Follows line k text at before n (Got to m) after
+      → Recorded (line .written) (line .spare) text at before n x to m after → Follows line k text at before n (Got to m) after
   stops : {p : Parsed} {s : Stop} {i : ℕ} {after : Bytes} → StopsAt p s i → line .reads k (drop at text) (stopped s (drop i text))
       → i ≤ length text
       → Follows line k text at before n p after
 
 -- The place is in the text, and the table has room for what can follow: two entries for each byte.
-pub record Ready (text : Bytes) (at : ℕ) (table : Bytes) (n : ℕ) : Type 0 where
+pub record RoomAhead (text : Bytes) (at : ℕ) (table : Bytes) (n : ℕ) : Type 0 where
   pub within : at ≤ length text
   pub room : 6 * (n + 2 * (length text - at)) ≤ length table
 

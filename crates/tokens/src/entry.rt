@@ -2,7 +2,7 @@
 use crate::answer::Parsed;
 use crate::answer::passed;
 use crate::kind::kind_of;
-use reading::Chain;
+use derivation::Chain;
 ghost use mathlib.Core.Path.{_≡_};
 ghost use Prim.Native.Nat.{_+_, _*_, _<_, _≤_};
 ghost use lib.ListN.{length};

@@ -1,6 +1,6 @@
 // The kinds that are written for a text, and the bytes that stand for them there.
-use reading::Bracket;
-use reading::Chain;
+use derivation::Bracket;
+use derivation::Chain;
 use tables::AND;
 use tables::CHILD;
 use tables::EITHER;
@@ -11,7 +11,7 @@ use tables::PREVIOUS;
 use tables::SELF;
 use tables::THEN;
 ghost use mathlib.Core.Path.{_≡_};
-ghost use Rattle.reading.proofs.Parts.{joining, closingByte};
+ghost use Rattle.derivation.proofs.Parts.{joining, closingByte};
 ghost use Rattle.tokens.specs.Reading.{outerChain, innerChain, joinedKind, AxisOf};
 
 // A path is a chain of sequences, which are chains of items; a filter is a chain of conjunctions, which are chains of terms.

@@ -6,7 +6,7 @@ ghost use mathlib.Core.Path.{_≡_};
 ghost use Prim.Native.Nat.{_≤_};
 ghost use lib.ListN.{length, getD};
 ghost use Rattle.tokens.specs.Label.{DigitOf, LabelAt};
-ghost use Rattle.tokens.specs.Reading.{Ready, Follows, labels, Nots};
+ghost use Rattle.tokens.specs.Reading.{RoomAhead, Follows, labels, Nots};
 
 // The byte at a place, 0 behind the end: no byte of the grammar.
 pub fn byte_at(text: &[u8], at: usize) -> u8
@@ -76,7 +76,7 @@ fn read_label(text: &[u8], at: usize) -> Label
 
 // The entry of a label that stands at `at`, behind the `count` entries of the table.
 pub fn labelled(text: &[u8], at: usize, table: &mut [u8], count: usize) -> Parsed
-    requires { ⌜ Ready (now text) at (now table) count ⌝ }
+    requires { ⌜ RoomAhead (now text) at (now table) count ⌝ }
     ensures { λ r. ⌜ Follows labels 0 (now (text .entry)) at (now (table .entry)) count r (now (table .exit)) ⌝ }
 {
     let label = read_label(text, at);

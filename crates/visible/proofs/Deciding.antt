@@ -19,7 +19,7 @@ use Rattle.view.specs.Visible.{Ruled, Visible, shown, inherits}
 use Rattle.view.specs.Promise.{Seen, Annotated}
 use Rattle.sets.specs.Sets.{In, Holds}
 use Rattle.visible.specs.Index.{HasPair, FirstNamed, Row, none, at, Indexed}
-use Rattle.visible.specs.Answers.{Answered}
+use Rattle.visible.specs.Answers.{AllAnswered}
 use Rattle.visible.specs.Shown as told
 use Rattle.visible.specs.Shown.{rowOf, Shown, answered, inherited}
 use Rattle.visible.proofs.Indexing.{first-itself, pair-one}
@@ -66,7 +66,7 @@ abbrev RuledBy : List Rule → Tree → ℕ → ℕ → Filter → Type 0
 RuledBy given t p i f = Ruled given (labelAt t p) (labelAt t i) f
 
 module _ {roll annotation filters : Bytes} {index answers : List ℕ} (r : Roll roll) (a : Annotated annotation filters)
-    (indexed : Indexed annotation index) (answer : Answered roll annotation filters answers) where
+    (indexed : Indexed annotation index) (answer : AllAnswered roll annotation filters answers) where
   abbrev t : Tree
   t = nodes roll
 

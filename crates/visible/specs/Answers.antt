@@ -22,8 +22,8 @@ pub record AnswersTo (roll annotation filters : Bytes) (n : ℕ) (answers : List
   pub answer : (r i : ℕ) → r < n → FirstNamed annotation r r → i < 4096 → In answers (4096 * r + i) ↔ HoldsAt roll annotation filters r i
 
 -- the answers of all
-abbrev pub Answered : Bytes → Bytes → Bytes → List ℕ → Type 0
-Answered roll annotation filters answers = AnswersTo roll annotation filters (length (records annotation)) answers
+abbrev pub AllAnswered : Bytes → Bytes → Bytes → List ℕ → Type 0
+AllAnswered roll annotation filters answers = AnswersTo roll annotation filters (length (records annotation)) answers
 
 -- the first n words of a set stand at the place of record r, and the words of other records as before
 pub record Stored (r n : ℕ) (set before after : List ℕ) : Type 0 where

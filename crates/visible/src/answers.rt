@@ -12,7 +12,7 @@ ghost use lib.ListN.{length};
 ghost use Rattle.view.specs.Annotation.{records};
 ghost use Rattle.view.specs.Promise.{Annotated};
 ghost use Rattle.evaluator.specs.Evaluator.{Grounds};
-ghost use Rattle.visible.specs.Answers.{AnswersTo, Answered, Stored};
+ghost use Rattle.visible.specs.Answers.{AnswersTo, AllAnswered, Stored};
 
 // Puts a set into the words of record r.
 fn store(answers: &mut [u64; 2048], r: usize, set: [u64; 64])
@@ -66,7 +66,7 @@ pub(crate) fn answer(
     links: &[u16; 8192],
 ) -> [u64; 2048]
     requires { ⌜ Grounds (now roll) (now filters) (now links) × Annotated (now annotation) (now filters) ⌝ }
-    ensures { λ r. ⌜ Answered (now (roll .entry)) (now (annotation .entry)) (now (filters .entry)) r ⌝ }
+    ensures { λ r. ⌜ AllAnswered (now (roll .entry)) (now (annotation .entry)) (now (filters .entry)) r ⌝ }
 {
     let n = records_of(annotation);
     let mut answers = [0u64; 2048];

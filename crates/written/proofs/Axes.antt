@@ -12,7 +12,7 @@ use Rattle.query.specs.Kind.{kinds, find}
 use Rattle.query.specs.Table.{Entry, Entries, readOn, operandHeight, height, Meant, a-path, a-filter, thePath, theFilter, pathIn, filterIn, build, mean}
 use Rattle.axes.proofs.Formulas as formulas
 use Rattle.written.specs.Written.{raise, axisRows, axisRow}
-use Rattle.written.proofs.Stands.{nothing, Stands, Sound, Behind, behind-as, Ordered, Stood, Next, entry-behind}
+use Rattle.written.proofs.Stands.{nothing, Stands, Sound, EntryBehind, behind-as, Ordered, Stood, Next, entry-behind}
 use Rattle.written.proofs.Patterns.{InTurn, pattern-stood, pattern-sound, turnTest, rowTest, namedTest, labelTest, sameSort, turn-tested, lowTest, low-tested}
 
 -- up, past nodes that no record is for, to the root or to a node that a record shows
@@ -106,5 +106,5 @@ module _ {own shown : Filter} {table : Entries} {c d : ℕ} (size : length table
 -- a copy of an axis's row stands for the axis, behind any table in which the rows stand
 pub axis-behind : {own shown : Filter} {table : Entries} {c : ℕ} (d : ℕ) {row : Entry} {p : Path}
     → Stood c (λ x. x + d) (rowsMeant own shown) rowsHeights table → AxisRow own shown row p
-    → Behind table (raise d row) (a-path p) (c + 19)
+    → EntryBehind table (raise d row) (a-path p) (c + 19)
 axis-behind {c = c} d stood axis = behind-as (omega (arith, axis .low)) (rw (axis .means) at (entry-behind stood (axis .ordered)))

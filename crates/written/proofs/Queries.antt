@@ -13,9 +13,9 @@ use Rattle.query.specs.Kind.{Sort, Operand, unused, of, Row, kinds, rowOf}
 use Rattle.query.specs.Table.{Entry, Entries, entryAt, rowAt, HasSort, OperandField, EntryRight, readOn, height, heightAt, Meant, a-path, a-filter, thePath, theFilter, pathIn, filterIn, build, mean, meanings}
 use Rattle.query.proofs.Rows.{Each, _&_, no-more, row-found}
 use Rattle.query.proofs.Tables.{read-length, read-append, read-prefix}
-use Rattle.rewriting.proofs.Rewriting.{rewritten, rewrittenFilter}
+use Rattle.theorem.proofs.Rewriting.{rewritten, rewrittenFilter}
 use Rattle.written.specs.Written.{raise, axisRow, chosen, viewEntry}
-use Rattle.written.proofs.Stands.{nothing, sortFor, Sound, at-end, sound-end, Behind, behind-as, Named, Ordered, Stood, stood-kept, Next, stood-end, entry-behind, mean-listed, height-listed, meant-sorted}
+use Rattle.written.proofs.Stands.{nothing, sortFor, Sound, at-end, sound-end, EntryBehind, behind-as, Named, Ordered, Stood, stood-kept, Next, stood-end, entry-behind, mean-listed, height-listed, meant-sorted}
 use Rattle.written.proofs.Axes.{seenBy, rowsMeant, rowsHeights, AxisRow, axis-rows, axis-behind}
 
 module _ (vis : Filter) where
@@ -68,7 +68,7 @@ module _ (own shown : Filter) {c : ℕ} (d base : ℕ) {table : Entries}
 
     -- the entry written stands for x
     abbrev For : Meant → Type 0
-    For x = Behind table (viewEntry d base e) x (c + 18 + height hs e)
+    For x = EntryBehind table (viewEntry d base e) x (c + 18 + height hs e)
 
     -- so it does for an entry of a row's kind
     abbrev Asked : Row → Type 0
@@ -111,7 +111,7 @@ module _ (own shown : Filter) {c : ℕ} (d base : ℕ) {table : Entries}
         & no-more
 
     -- of whatever kind it is
-    pub view-behind : Behind table (viewEntry d base e) (carry seen (mean s e)) (c + 18 + height hs e)
+    pub view-behind : EntryBehind table (viewEntry d base e) (carry seen (mean s e)) (c + 18 + height hs e)
     view-behind =
         let (stands, number) = row-found Asked by-row (ordered .listed) in
         rw (mean-listed s e (ordered .listed)) (stands (ordered .listed) (sym number))
@@ -157,7 +157,7 @@ module _ (vis : Filter) (done : Entries) (e : Entry) (rest : Entries) where
         right = named (right .row .right) (e .right) (rw same at (right .right));
       }
 
--- Behind a front in which the axes' rows stand, the entries of the query are written one after the other.
+-- EntryBehind a front in which the axes' rows stand, the entries of the query are written one after the other.
 module _ (own shown : Filter) {c : ℕ} (d : ℕ) {front : Entries} (rows : Stood c (λ x. x + d) (rowsMeant own shown) rowsHeights front) where
   abbrev vis : Filter
   vis = seenBy own shown
@@ -185,7 +185,7 @@ module _ (own shown : Filter) {c : ℕ} (d : ℕ) {front : Entries} (rows : Stoo
 
   module _ (done : Entries) (e : Entry) (rest : Entries) (right : EntryRight (done ++ e ∷ rest) (length done)) (drawn : Drawn done) where
     -- the next entry
-    next-behind : Behind (soFar done) (view e) (carry vis (mean (meanings done) e)) (c + 18 + height (heights done) e)
+    next-behind : EntryBehind (soFar done) (view e) (carry vis (mean (meanings done) e)) (c + 18 + height (heights done) e)
     next-behind =
         view-behind own shown d (length front) (stood-kept (map view done) rows) (meanings done) (heights done) e drawn
         (query-ordered vis done e rest right)

@@ -11,7 +11,7 @@ use Rattle.query.specs.Syntax.{Filter, or}
 use Rattle.query.specs.Kind.{filter, kinds, find}
 use Rattle.query.specs.Table.{Entries, LabelField, readOn, operandHeight, height, Meant, a-path, a-filter, thePath, theFilter, pathIn, filterIn, build, mean, filterAt}
 use Rattle.view.specs.Annotation.{AnnotationRecord, RecordForm, Rule}
-use Rattle.rewriting.proofs.VisibleFilter.{someOf, pairOf, showing}
+use Rattle.theorem.proofs.VisibleFilter.{someOf, pairOf, showing}
 use Rattle.written.specs.Written.{entry, labelEntry, moved, renumber, opening, recordEntries}
 use Rattle.written.proofs.Stands.{nothing, Stands, stands-kept, stands-as, Sound, sound-lower, Named, Ordered, Stood, Next, filter-stands}
 use Rattle.written.proofs.Patterns.{InTurn, pattern-stood, pattern-sound, turnTest, rowTest, namedTest, labelTest, sameSort, turn-tested, lowTest, low-tested}
@@ -94,7 +94,7 @@ low : (r : AnnotationRecord) (k : ℕ) → getD (heights r) k 0 ≤ 7
 unfolding heights lowTest readOn height operandHeight kinds find
 low r = low-tested 7 (heights r) tt
 
--- Behind the filter table, whose entries are at most h high, and the opening: n records are written, and the last two entries are about
+-- EntryBehind the filter table, whose entries are at most h high, and the opening: n records are written, and the last two entries are about
 -- them.
 pub record Stage (filters : Entries) (h n : ℕ) (rules : List Rule) (table : Entries) : Type 0 where
   pub size : length table ≡ length filters + 3 + 9 * n

@@ -87,16 +87,16 @@ sound-more {table} {h} e s right low =
     lows i l (no behind) = let last : i ≡ length table = omega (arith, size) in rw last low
 
 -- An entry behind a table is in order, stands for x and is at most h high.
-pub record Behind (table : Entries) (e : Entry) (x : Meant) (h : ℕ) : Type 0 where
+pub record EntryBehind (table : Entries) (e : Entry) (x : Meant) (h : ℕ) : Type 0 where
   pub right : AllRight table (e ∷ [])
   pub stands : Stands (table ++ e ∷ []) (length table) x h
 
 -- a greater bound is one too
-pub behind-as : {table : Entries} {e : Entry} {x : Meant} {h h′ : ℕ} → h ≤ h′ → Behind table e x h → Behind table e x h′
+pub behind-as : {table : Entries} {e : Entry} {x : Meant} {h h′ : ℕ} → h ≤ h′ → EntryBehind table e x h → EntryBehind table e x h′
 behind-as l end = record { right = end .right; stands = stands-as refl l (end .stands) }
 
 -- the table stays sound
-pub sound-end : {table : Entries} {e : Entry} {x : Meant} {k h : ℕ} → Behind table e x k → k ≤ h → Sound table h → Sound (table ++ e ∷ []) h
+pub sound-end : {table : Entries} {e : Entry} {x : Meant} {k h : ℕ} → EntryBehind table e x k → k ≤ h → Sound table h → Sound (table ++ e ∷ []) h
 sound-end {e = e} end l sound = sound-more e sound (end .right) (omega (arith, end .stands .low))
 
 -- The field of an operand that names one of the things in a list, of the sort that it wants.
@@ -134,7 +134,7 @@ module _ {to : ℕ → ℕ} {s : List Meant} {table : Entries} (x : Meant) (e : 
       let longer = length-append table (e ∷ []) in
       record { place = λ k j l. next .place k (suc j) (omega arith) ∙ omega arith }
 
-  pub stood-end : {c : ℕ} {hs : List ℕ} (h : ℕ) → Stood c to s hs table → Behind table e x (c + h)
+  pub stood-end : {c : ℕ} {hs : List ℕ} (h : ℕ) → Stood c to s hs table → EntryBehind table e x (c + h)
       → Stood c to (s ++ x ∷ []) (hs ++ h ∷ []) (table ++ e ∷ [])
   stood-end {c} {hs} h stood new =
       let more = length-append s (x ∷ []) in
@@ -277,7 +277,7 @@ module _ {c : ℕ} {to : ℕ → ℕ} {s : List Meant} {hs : List ℕ} {table : 
       rw (at-end height table moves 0, height-listed old moves (ordered .listed), height-listed hs e (ordered .listed)) (omega arith)
 
   -- all in one
-  pub entry-behind : Behind table (renumber to e) (mean s e) (c + height hs e)
+  pub entry-behind : EntryBehind table (renumber to e) (mean s e) (c + height hs e)
   unfolding row moves renumber
   entry-behind =
       let same : row .sort ≡ sortFor (mean s e) = sym (ap sortFor (mean-listed s e (ordered .listed)) ∙ build-sort s e (ordered .listed)) in

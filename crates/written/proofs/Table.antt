@@ -11,8 +11,8 @@ use Rattle.query.specs.Kind.{path}
 use Rattle.query.specs.Table.{Entry, Entries, HasSort, EntryRight, height, heightAt, readOn, thePath, theFilter, pathIn, filterIn, mean, meanings, pathAt, filterAt, queryOf}
 use Rattle.query.proofs.Tables.{read-length}
 use Rattle.view.specs.Annotation.{AnnotationRecord, recordAt, RecordForm, Rule}
-use Rattle.rewriting.proofs.Rewriting.{rewritten}
-use Rattle.rewriting.proofs.VisibleFilter.{someOf, pairOf, showing, climbing, visibleBy}
+use Rattle.theorem.proofs.Rewriting.{rewritten}
+use Rattle.theorem.proofs.VisibleFilter.{someOf, pairOf, showing, climbing, visibleBy}
 use Rattle.written.specs.Written.{raise, opening, recordEntries, recordsEntries, axisRows, prelude, preludeSize, viewEntry, written}
 use Rattle.written.proofs.Stands.{nothing, sortFor, stands-as, stands-kept, Sound, Stood, meant-sorted}
 use Rattle.written.proofs.Axes.{seenBy, rowsMeant, rowsHeights, visible-row, rows-many, rows-stood, rows-sound}

@@ -6,7 +6,7 @@ use mathlib.Core.Logic.{⊎-elim}
 use lib.ListN.{length}
 use Rattle.reply.specs.Bytes.{Bytes}
 use Rattle.tree.proofs.Calls.{given, asked}
-use Rattle.reading.proofs.Parts.{inside}
+use Rattle.derivation.proofs.Parts.{inside}
 use Rattle.tokens.specs.declared.answer.Parsed.{Parsed}
 use Rattle.tokens.specs.Reading.{Follows, chains}
 use borrow.Author.Needs.{needs}

@@ -8,10 +8,10 @@ use borrow.Fn.Kinds.{In}
 use native.Mathlib.Omega.{arith}
 use Rattle.reply.specs.Bytes.{Bytes}
 use Rattle.tree.proofs.Calls.{given, asked}
-use Rattle.reading.specs.declared.Chain.{Chain}
-use Rattle.reading.proofs.Parts.{joining}
+use Rattle.derivation.specs.declared.Chain.{Chain}
+use Rattle.derivation.proofs.Parts.{joining}
 use Rattle.tokens.specs.declared.answer.Parsed.the-variants.{Got}
-use Rattle.tokens.specs.Reading.{Follows, Ready, links, outerChain, innerChain}
+use Rattle.tokens.specs.Reading.{Follows, RoomAhead, links, outerChain, innerChain}
 use Rattle.tokens.proofs.Places.{inside}
 use Rattle.tokens.proofs.Following.{got-stands}
 use Rattle.tokens.proofs.Chains.{joint-seen, Chained, ended}
@@ -131,10 +131,10 @@ module _ (t : ℕ) where
   standing c = c .loop .inv .1
 
   -- the reader is ready for the inner chain where that begins, and for the next link
-  ready-inner : (c : Head) → Ready (text c) (standing c .from) (standing c .mid) (c .loop .begun)
+  ready-inner : (c : Head) → RoomAhead (text c) (standing c .from) (standing c .mid) (c .loop .begun)
   ready-inner c = begun-ready (outer c) (beginning c .pre .1) (standing c .kept) (standing c .outside)
 
-  ready : (c : Head) → Ready (text c) (c .loop .next) (c .loop .table) (c .loop .left)
+  ready : (c : Head) → RoomAhead (text c) (c .loop .next) (c .loop .table) (c .loop .left)
   ready c = begun-ready (inner c) (ready-inner c) (c .loop .inv .0 ∙ sym (standing c .kept)) (standing c .inside)
 
   -- Behind a link: the place, the number of entries, and the table.

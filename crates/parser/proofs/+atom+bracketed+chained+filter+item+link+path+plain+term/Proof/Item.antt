@@ -7,7 +7,7 @@ use borrow.Fn.Kinds.{In}
 use native.Mathlib.Omega.{arith}
 use Rattle.reply.specs.Bytes.{Bytes}
 use Rattle.tree.proofs.Calls.{given, asked}
-use Rattle.reading.proofs.Rules.{StarsRead}
+use Rattle.derivation.proofs.Rules.{StarsRead}
 use Rattle.tokens.specs.Reading.{items}
 use Rattle.tokens.proofs.Places.{inside}
 use Rattle.tokens.proofs.Chains.{Going}

@@ -9,7 +9,7 @@ use borrow.Fn.Kinds.{In}
 use native.Mathlib.Omega.{arith}
 use Rattle.reply.specs.Bytes.{Bytes}
 use Rattle.tree.proofs.Calls.{given, asked}
-use Rattle.reading.proofs.Rules.{termBytes}
+use Rattle.derivation.proofs.Rules.{termBytes}
 use Rattle.tokens.proofs.Places.{inside, nor, none-of}
 use Rattle.tokens.proofs.Following.{room-after, ready-on}
 use Rattle.tokens.proofs.Terms.{t-follows, f-follows, label-follows, curly-follows, leads-follows}

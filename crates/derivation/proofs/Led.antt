@@ -9,24 +9,24 @@ use Rattle.reply.specs.Bytes.{Bytes}
 use Rattle.query.specs.Syntax.{Path, Filter}
 use Rattle.query.specs.Syntax as syntax
 use Rattle.text.specs.Promise.{opening}
-use Rattle.reading.specs.declared.Chain.{Chain}
-use Rattle.reading.specs.declared.Bracket.{Bracket}
-use Rattle.reading.proofs.Parts.{Joined, join, inside, openingByte}
-use Rattle.reading.proofs.Rules.{NotAt, other, NoSecond, NoDigit, termBytes, Stop, broken, deep, Result, got, stopped}
-use Rattle.reading.proofs.Rules.{LabelReads, one-digit, two-digits, no-digit, StarsRead, one-more, no-more}
-use Rattle.reading.proofs.Rules.{ChainReads, starts, start-stops, GoesOn, joined, joined-stops}
-use Rattle.reading.proofs.Rules.{LinkReads, sequence, item, item-stops, conjunction, exclamation, exclamation-stops}
-use Rattle.reading.proofs.Rules.{letter-t, letter-f, hash, hash-stops, curly, a-path, a-path-stops}
-use Rattle.reading.proofs.Rules.{AtomReads, dot, letter-v, caret, greater, less, square, square-stops, round, no-atom}
-use Rattle.reading.proofs.Rules.{BracketReads, closed, stays-open, inside-stops, too-deep}
-use Rattle.reading.proofs.Rules as rules
-use Rattle.reading.proofs.NextByte.{unequal, equal, digit-opens-nothing}
-use Rattle.reading.proofs.Machine as machine
-use Rattle.reading.proofs.Machine.{PathPlace, FilterPlace, in-filter, State, label, Offers, nothing, on, digit, Digit, dec-digit}
-use Rattle.reading.proofs.Machine.{look, goes, offer}
-use Rattle.reading.proofs.Machine.{ons, bytes, atoms, terms, depth, path-depth, Moves, stays, moves, behind-term, behind-item}
-use Rattle.reading.proofs.Around.{Around, wanted, behind-chain, behind-link, around-depth, Holder, held, outside, shut}
-use Rattle.reading.proofs.Around.{joint-opens-nothing, bracket-opens, opened, one-deeper, closes, close-opens-nothing}
+use Rattle.derivation.specs.declared.Chain.{Chain}
+use Rattle.derivation.specs.declared.Bracket.{Bracket}
+use Rattle.derivation.proofs.Parts.{Joined, join, inside, openingByte}
+use Rattle.derivation.proofs.Rules.{NotAt, other, NoSecond, NoDigit, termBytes, Stop, broken, deep, Result, got, stopped}
+use Rattle.derivation.proofs.Rules.{LabelReads, one-digit, two-digits, no-digit, StarsRead, one-more, no-more}
+use Rattle.derivation.proofs.Rules.{ChainReads, starts, start-stops, GoesOn, joined, joined-stops}
+use Rattle.derivation.proofs.Rules.{LinkReads, sequence, item, item-stops, conjunction, exclamation, exclamation-stops}
+use Rattle.derivation.proofs.Rules.{letter-t, letter-f, hash, hash-stops, curly, a-path, a-path-stops}
+use Rattle.derivation.proofs.Rules.{AtomReads, dot, letter-v, caret, greater, less, square, square-stops, round, no-atom}
+use Rattle.derivation.proofs.Rules.{BracketReads, closed, stays-open, inside-stops, too-deep}
+use Rattle.derivation.proofs.Rules as rules
+use Rattle.derivation.proofs.NextByte.{unequal, equal, digit-opens-nothing}
+use Rattle.derivation.proofs.Machine as machine
+use Rattle.derivation.proofs.Machine.{PathPlace, FilterPlace, in-filter, State, label, Offers, nothing, on, digit, Digit, dec-digit}
+use Rattle.derivation.proofs.Machine.{look, goes, offer}
+use Rattle.derivation.proofs.Machine.{ons, bytes, atoms, terms, depth, path-depth, Moves, stays, moves, behind-term, behind-item}
+use Rattle.derivation.proofs.Around.{Around, wanted, behind-chain, behind-link, around-depth, Holder, held, outside, shut}
+use Rattle.derivation.proofs.Around.{joint-opens-nothing, bracket-opens, opened, one-deeper, closes, close-opens-nothing}
 
 -- What a state takes is what is offered, as far as the next byte tells, and at the end of a text.
 pub record Here (σ : State) (offers : Offers) (b : Bytes) : Type 0 where
@@ -112,12 +112,12 @@ here : {σ : State} {b : Bytes} → Here σ (offer σ) b
 here = record { now = refl; at-end = refl }
 
 -- The state τ takes at b what σ takes there.
-record Alike (σ τ : State) (b : Bytes) : Type 0 where
+record TakesAs (σ τ : State) (b : Bytes) : Type 0 where
   takes : Here τ (offer σ) b
   depths : depth τ ≡ depth σ
 
 -- and so what is offered there
-taking : {σ τ : State} {o : Offers} {b : Bytes} → Alike σ τ b → Here σ o b → Here τ o b
+taking : {σ τ : State} {o : Offers} {b : Bytes} → TakesAs σ τ b → Here σ o b → Here τ o b
 taking s h = record { now = s .takes .now ∙ h .now; at-end = s .takes .at-end ∙ h .at-end }
 
 -- without a byte that is not next
@@ -131,7 +131,7 @@ module _ {limit : ℕ} where
   onwards (moves e l x) y = moves e l (onwards x y)
 
   -- a move from a state that takes the same
-  instead : {σ τ ω υ : State} {c : ℕ} {b more : Bytes} → Alike σ τ (c ∷ b) → look (offer σ) (c ∷ b) ≡ goes ω
+  instead : {σ τ ω υ : State} {c : ℕ} {b more : Bytes} → TakesAs σ τ (c ∷ b) → look (offer σ) (c ∷ b) ≡ goes ω
       → (T (opening c) → depth σ < limit) → Moves limit ω b υ more
       → Moves limit τ (c ∷ b) υ more
   instead {τ = τ} s e l y = moves {σ = τ} (s .takes .now ∙ e) (λ o. rw (s .depths) (l o)) y
@@ -149,7 +149,7 @@ module _ {limit : ℕ} where
     first e l x = moved (moves e l stays) x
 
     -- two states that take the same
-    alike : {σ τ : State} {b : Bytes} {r : Result A} → Alike σ τ b → Led limit σ b behind r → Led limit τ b behind r
+    alike : {σ τ : State} {b : Bytes} {r : Result A} → TakesAs σ τ b → Led limit σ b behind r → Led limit τ b behind r
     alike s (led stays h) = led stays (taking s h)
     alike s (led (moves e l y) h) = led (instead s e l y) h
     alike s (broke stays h) = broke stays (taking s h)

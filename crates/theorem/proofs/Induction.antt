@@ -6,14 +6,14 @@ use Rattle.tree.specs.Tree.{Tree, labelAt}
 use Rattle.query.specs.Syntax.{Path, self, child, parent, next, previous, stay, then, either, star}
 use Rattle.query.specs.Syntax.{Filter, labelled, leads, always, never, not, and, or}
 use Rattle.query.specs.Meaning.{holds}
-use Rattle.rewriting.proofs.Rewriting.{rewritten, rewrittenFilter}
-use Rattle.rewriting.proofs.Simulation.{Follows, Implies, turned, follows-self, follows-stay, follows-then, follows-either, follows-star}
-use Rattle.rewriting.proofs.Simulation.{implies-leads, implies-not, implies-and, implies-or}
+use Rattle.theorem.proofs.Rewriting.{rewritten, rewrittenFilter}
+use Rattle.theorem.proofs.Simulation.{Simulates, Implies, turned, simulates-self, simulates-stay, simulates-then, simulates-either, simulates-star}
+use Rattle.theorem.proofs.Simulation.{implies-leads, implies-not, implies-and, implies-or}
 
 -- Between tied nodes, p on t and q on u lead to tied nodes.
-pub record Alike (t u : Tree) (Tied : ℕ → ℕ → Type 0) (p q : Path) : Type 0 where
-  pub forth : Follows t u Tied p q
-  pub back : Follows u t (turned Tied) q p
+pub record Bisimilar (t u : Tree) (Tied : ℕ → ℕ → Type 0) (p q : Path) : Type 0 where
+  pub forth : Simulates t u Tied p q
+  pub back : Simulates u t (turned Tied) q p
 
 -- At tied nodes, f on t and g on u both hold or both do not.
 pub record Agree (t u : Tree) (Tied : ℕ → ℕ → Type 0) (f g : Filter) : Type 0 where
@@ -23,36 +23,36 @@ pub record Agree (t u : Tree) (Tied : ℕ → ℕ → Type 0) (f g : Filter) : T
 -- What the rewriting rests on: tied nodes have one label, and between them each rewritten axis does on t what the axis does on u.
 pub record Grounds (t u : Tree) (Tied : ℕ → ℕ → Type 0) (vis : Filter) : Type 0 where
   pub label : {i a : ℕ} → Tied i a → labelAt u a ≡ labelAt t i
-  pub child : Alike t u Tied (rewritten vis Path.child) Path.child
-  pub parent : Alike t u Tied (rewritten vis Path.parent) Path.parent
-  pub next : Alike t u Tied (rewritten vis Path.next) Path.next
-  pub previous : Alike t u Tied (rewritten vis Path.previous) Path.previous
+  pub child : Bisimilar t u Tied (rewritten vis Path.child) Path.child
+  pub parent : Bisimilar t u Tied (rewritten vis Path.parent) Path.parent
+  pub next : Bisimilar t u Tied (rewritten vis Path.next) Path.next
+  pub previous : Bisimilar t u Tied (rewritten vis Path.previous) Path.previous
 
 module _ {t u : Tree} {Tied : ℕ → ℕ → Type 0} (vis : Filter) (grounds : Grounds t u Tied vis) where
   mutual
     unfolding rewritten holds
 
     -- every rewritten path does on t what the path does on u
-    pub paths-alike : (p : Path) → Alike t u Tied (rewritten vis p) p
-    paths-alike self = record { forth = follows-self; back = follows-self }
+    pub paths-alike : (p : Path) → Bisimilar t u Tied (rewritten vis p) p
+    paths-alike self = record { forth = simulates-self; back = simulates-self }
     paths-alike child = grounds .child
     paths-alike parent = grounds .parent
     paths-alike next = grounds .next
     paths-alike previous = grounds .previous
     paths-alike (stay f) =
         let h = filters-agree f in
-        record { forth = follows-stay (h .forth); back = follows-stay (h .back) }
+        record { forth = simulates-stay (h .forth); back = simulates-stay (h .back) }
     paths-alike (then p q) =
         let h = paths-alike p in
         let k = paths-alike q in
-        record { forth = follows-then (h .forth) (k .forth); back = follows-then (h .back) (k .back) }
+        record { forth = simulates-then (h .forth) (k .forth); back = simulates-then (h .back) (k .back) }
     paths-alike (either p q) =
         let h = paths-alike p in
         let k = paths-alike q in
-        record { forth = follows-either (h .forth) (k .forth); back = follows-either (h .back) (k .back) }
+        record { forth = simulates-either (h .forth) (k .forth); back = simulates-either (h .back) (k .back) }
     paths-alike (star p) =
         let h = paths-alike p in
-        record { forth = follows-star (h .forth); back = follows-star (h .back) }
+        record { forth = simulates-star (h .forth); back = simulates-star (h .back) }
 
     -- every rewritten filter holds on t where the filter holds on u
     pub filters-agree : (f : Filter) → Agree t u Tied (rewrittenFilter vis f) f

@@ -13,13 +13,13 @@ use Rattle.text.specs.Grammar.{PathText}
 use Rattle.text.specs.Written.{tableOf}
 use Rattle.text.specs.Promise.{TextLength, Begins, Breaks, opening, closing, howMany, OneTooMany, Fits, TextFault, too-deep, TextOf}
 use Rattle.text.specs.Promise as promise
-use Rattle.reading.proofs.Rules.{Result, got, stopped, PathReads}
-use Rattle.reading.proofs.Rules as rules
-use Rattle.reading.proofs.Sound.{Span, bracket, Heard, whole, begun, heard}
-use Rattle.reading.proofs.Machine.{top, State, start, depth, behind-path, Moves}
-use Rattle.reading.proofs.Led.{Here, Led, led, broke, deepened, led-chain}
-use Rattle.reading.proofs.Depth.{passes}
-use Rattle.reading.proofs.Place.{begins, breaks}
+use Rattle.derivation.proofs.Rules.{Result, got, stopped, PathReads}
+use Rattle.derivation.proofs.Rules as rules
+use Rattle.derivation.proofs.Sound.{Span, bracket, Heard, whole, begun, heard}
+use Rattle.derivation.proofs.Machine.{top, State, start, depth, behind-path, Moves}
+use Rattle.derivation.proofs.Led.{Here, Led, led, broke, deepened, led-chain}
+use Rattle.derivation.proofs.Depth.{passes}
+use Rattle.derivation.proofs.Place.{begins, breaks}
 
 -- What is true of a text that is read so.
 pub data Judged (text : Bytes) : Result Path → Type 0 where

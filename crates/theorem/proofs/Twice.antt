@@ -11,8 +11,8 @@ use Rattle.view.specs.View.{Position, View}
 use Rattle.view.specs.Same.{SameOnView}
 use Rattle.view.proofs.Carried.{view-position}
 use Rattle.view.proofs.Order.{view-in-order}
-use Rattle.rewriting.proofs.Rewriting.{rewritten}
-use Rattle.rewriting.proofs.Theorem.{faithful}
+use Rattle.theorem.proofs.Rewriting.{rewritten}
+use Rattle.theorem.proofs.Theorem.{faithful}
 
 module _ {t : Tree} (o : InOrder t) {Seen : ℕ → Type 0} (dec : (i : ℕ) → Dec (Seen i)) (root : Seen 0)
     (vis : Filter) (right : (i : ℕ) → i < length t → holds t vis i ↔ Seen i) {v : Tree} (view : View t Seen v)

@@ -1,10 +1,10 @@
 -- Chains and brackets, by their kinds: what is made, of what, and with which bytes. Assumes nothing.
 use Prim.Native.Nat.{ℕ}
 use Rattle.query.specs.Syntax.{Path, then, either, Filter, and, or}
-use Rattle.reading.specs.declared.Chain.{Chain}
-use Rattle.reading.specs.declared.Chain.the-variants as chain
-use Rattle.reading.specs.declared.Bracket.{Bracket}
-use Rattle.reading.specs.declared.Bracket.the-variants as bracket
+use Rattle.derivation.specs.declared.Chain.{Chain}
+use Rattle.derivation.specs.declared.Chain.the-variants as chain
+use Rattle.derivation.specs.declared.Bracket.{Bracket}
+use Rattle.derivation.specs.declared.Bracket.the-variants as bracket
 
 -- paths and sequences are paths, filters and conjunctions filters
 abbrev pub Joined : Chain → Type 0

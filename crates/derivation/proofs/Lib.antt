@@ -3,7 +3,7 @@ pub mod Rules
 pub mod NextByte
 pub mod Sound
 pub mod Deciding
-pub mod Follows
+pub mod Complete
 pub mod Machine
 pub mod Around
 pub mod Led

@@ -11,8 +11,8 @@ use Rattle.reply.specs.Bytes.{Bytes}
 use Rattle.query.specs.Syntax.{Path}
 use Rattle.text.specs.Grammar.{PathText}
 use Rattle.text.specs.Promise.{Begins, Breaks}
-use Rattle.reading.proofs.Machine.{State, start, Next, stuck, goes, finished, look, offer, Moves, stays, moves}
-use Rattle.reading.proofs.Depth.{look-ahead, passes, text-led}
+use Rattle.derivation.proofs.Machine.{State, start, Next, stuck, goes, finished, look, offer, Moves, stays, moves}
+use Rattle.derivation.proofs.Depth.{look-ahead, passes, text-led}
 
 -- How far the machine goes: what it finds there, and the text left.
 data Halt : Type 0 where

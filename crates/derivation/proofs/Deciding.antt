@@ -9,18 +9,18 @@ use lib.ListN.{length}
 use Rattle.reply.specs.Bytes.{Bytes}
 use Rattle.query.specs.Syntax.{Path, self, child, parent, next, previous, stay, star}
 use Rattle.query.specs.Syntax.{labelled, leads, always, never, not}
-use Rattle.reading.specs.declared.Chain.{Chain}
-use Rattle.reading.specs.declared.Chain.the-variants as chains
-use Rattle.reading.specs.declared.Bracket.{Bracket}
-use Rattle.reading.specs.declared.Bracket.the-variants as brackets
-use Rattle.reading.proofs.Parts.{Joined, join, joining, inside, openingByte, closingByte}
-use Rattle.reading.proofs.Rules.{Stop, broken, deep, Result, got, stopped, NotAt, atomBytes, termBytes, NoSecond, NoDigit}
-use Rattle.reading.proofs.Rules.{LabelReads, StarsRead}
-use Rattle.reading.proofs.Rules.{ChainReads, starts, start-stops, GoesOn, joined, joined-stops, ends}
-use Rattle.reading.proofs.Rules.{LinkReads, sequence, item, item-stops, conjunction, exclamation, exclamation-stops}
-use Rattle.reading.proofs.Rules.{letter-t, letter-f, hash, hash-stops, curly, a-path, a-path-stops}
-use Rattle.reading.proofs.Rules.{AtomReads, dot, letter-v, caret, greater, less, square, square-stops, round, no-atom}
-use Rattle.reading.proofs.Rules.{BracketReads, closed, stays-open, inside-stops, too-deep}
+use Rattle.derivation.specs.declared.Chain.{Chain}
+use Rattle.derivation.specs.declared.Chain.the-variants as chains
+use Rattle.derivation.specs.declared.Bracket.{Bracket}
+use Rattle.derivation.specs.declared.Bracket.the-variants as brackets
+use Rattle.derivation.proofs.Parts.{Joined, join, joining, inside, openingByte, closingByte}
+use Rattle.derivation.proofs.Rules.{Stop, broken, deep, Result, got, stopped, NotAt, atomBytes, termBytes, NoSecond, NoDigit}
+use Rattle.derivation.proofs.Rules.{LabelReads, StarsRead}
+use Rattle.derivation.proofs.Rules.{ChainReads, starts, start-stops, GoesOn, joined, joined-stops, ends}
+use Rattle.derivation.proofs.Rules.{LinkReads, sequence, item, item-stops, conjunction, exclamation, exclamation-stops}
+use Rattle.derivation.proofs.Rules.{letter-t, letter-f, hash, hash-stops, curly, a-path, a-path-stops}
+use Rattle.derivation.proofs.Rules.{AtomReads, dot, letter-v, caret, greater, less, square, square-stops, round, no-atom}
+use Rattle.derivation.proofs.Rules.{BracketReads, closed, stays-open, inside-stops, too-deep}
 
 -- a result with its reading, or nothing where the steps allowed are used up
 pub data Reading {A : Type 0} (Reads : Result A → Type 0) : Type 0 where

@@ -10,44 +10,44 @@ use Rattle.reply.specs.Bytes.{Bytes}
 use Rattle.query.specs.Syntax.{Path, Filter}
 use Rattle.text.specs.Grammar as grammar
 use Rattle.text.specs.Grammar.{LabelText, PathText, SequenceText, ItemText, AtomText}
-use Rattle.reading.specs.declared.Chain.{Chain}
-use Rattle.reading.specs.declared.Chain.the-variants as chain
-use Rattle.reading.specs.declared.Bracket.{Bracket}
-use Rattle.reading.specs.declared.Bracket.the-variants as bracket
-use Rattle.reading.proofs.Parts.{Joined, join, joining, inside, openingByte, closingByte}
-use Rattle.reading.proofs.Rules.{Result, got, NotAt, ended, other, termBytes, NoSecond, too-low, too-high}
-use Rattle.reading.proofs.Rules.{LabelReads, one-digit, two-digits, StarsRead, one-more, no-more}
-use Rattle.reading.proofs.Rules.{ChainReads, starts, GoesOn, joined, ends, PathReads, ItemReads}
-use Rattle.reading.proofs.Rules.{LinkReads, sequence, item, conjunction, exclamation, letter-t, letter-f, hash, curly, a-path}
-use Rattle.reading.proofs.Rules.{AtomReads, dot, letter-v, caret, greater, less, square, round, BracketReads, closed}
-use Rattle.reading.proofs.NextByte.{apart, absent, not-at}
+use Rattle.derivation.specs.declared.Chain.{Chain}
+use Rattle.derivation.specs.declared.Chain.the-variants as chain
+use Rattle.derivation.specs.declared.Bracket.{Bracket}
+use Rattle.derivation.specs.declared.Bracket.the-variants as bracket
+use Rattle.derivation.proofs.Parts.{Joined, join, joining, inside, openingByte, closingByte}
+use Rattle.derivation.proofs.Rules.{Result, got, NotAt, ended, other, termBytes, NoSecond, too-low, too-high}
+use Rattle.derivation.proofs.Rules.{LabelReads, one-digit, two-digits, StarsRead, one-more, no-more}
+use Rattle.derivation.proofs.Rules.{ChainReads, starts, GoesOn, joined, ends, PathReads, ItemReads}
+use Rattle.derivation.proofs.Rules.{LinkReads, sequence, item, conjunction, exclamation, letter-t, letter-f, hash, curly, a-path}
+use Rattle.derivation.proofs.Rules.{AtomReads, dot, letter-v, caret, greater, less, square, round, BracketReads, closed}
+use Rattle.derivation.proofs.NextByte.{apart, absent, not-at}
 
 -- & + ] }, one of which stands behind every term
 abbrev behindBytes : List ℕ
 behindBytes = 38 ∷ 43 ∷ 93 ∷ 125 ∷ []
 
 -- the text goes on with one of them
-data Behind : Bytes → Type 0 where
-  behind : {c : ℕ} {b : Bytes} → List·Memᴰ c behindBytes → Behind (c ∷ b)
+data EndsTerm : Bytes → Type 0 where
+  behind : {c : ℕ} {b : Bytes} → List·Memᴰ c behindBytes → EndsTerm (c ∷ b)
 
 -- so it does not go on with any other byte
-behind-not-at : {c : ℕ} {b : Bytes} → T (apart c behindBytes) → Behind b → NotAt (c ∷ []) b
+behind-not-at : {c : ℕ} {b : Bytes} → T (apart c behindBytes) → EndsTerm b → NotAt (c ∷ []) b
 behind-not-at t (behind m) = other (λ k. absent behindBytes t (Memᴰ·cast (sym (List·Memᴰ·eq-of-singleton k)) m))
 
-at-ampersand : {b : Bytes} → Behind (38 ∷ b)
+at-ampersand : {b : Bytes} → EndsTerm (38 ∷ b)
 at-ampersand = behind (List·Memᴰ·head refl)
 
-at-plus : {b : Bytes} → Behind (43 ∷ b)
+at-plus : {b : Bytes} → EndsTerm (43 ∷ b)
 at-plus = behind (List·Memᴰ·tail (List·Memᴰ·head refl))
 
-at-square : {b : Bytes} → Behind (93 ∷ b)
+at-square : {b : Bytes} → EndsTerm (93 ∷ b)
 at-square = behind (List·Memᴰ·tail (List·Memᴰ·tail (List·Memᴰ·head refl)))
 
-at-curly : {b : Bytes} → Behind (125 ∷ b)
+at-curly : {b : Bytes} → EndsTerm (125 ∷ b)
 at-curly = behind (List·Memᴰ·tail (List·Memᴰ·tail (List·Memᴰ·tail (List·Memᴰ·head refl))))
 
 -- nor with a digit
-no-second : {d : ℕ} {b : Bytes} → Behind b → NoSecond d b
+no-second : {d : ℕ} {b : Bytes} → EndsTerm b → NoSecond d b
 no-second (behind {c = c} (List·Memᴰ·head e)) = too-low {c = c} (omega arith)
 no-second (behind {c = c} (List·Memᴰ·tail (List·Memᴰ·head e))) = too-low {c = c} (omega arith)
 no-second (behind {c = c} (List·Memᴰ·tail (List·Memᴰ·tail (List·Memᴰ·head e)))) = too-high {c = c} (omega arith)
@@ -55,7 +55,7 @@ no-second (behind {c = c} (List·Memᴰ·tail (List·Memᴰ·tail (List·Memᴰ�
 no-second (behind (List·Memᴰ·tail (List·Memᴰ·tail (List·Memᴰ·tail (List·Memᴰ·tail m))))) = absurd (List·Memᴰ·not-nil m)
 
 -- a label is read as its number
-label-followed : {s more : Bytes} {l : ℕ} → LabelText s l → Behind more → LabelReads (s ++ more) (got l more)
+label-followed : {s more : Bytes} {l : ℕ} → LabelText s l → EndsTerm more → LabelReads (s ++ more) (got l more)
 label-followed (grammar.one-digit l h) a = one-digit l h (no-second a)
 label-followed (grammar.two-digits l h m) a = two-digits l h m
 
@@ -85,8 +85,8 @@ path-begins (grammar.bar {u = u} x y) more = rw append-assoc (path-begins x (124
 abbrev Apart : Chain → Bytes → Type 0
 Apart chain.Path more = NotAt (42 ∷ []) more × NotAt (47 ∷ []) more
 Apart chain.Sequence more = NotAt (42 ∷ []) more
-Apart chain.Filter more = Behind more × NotAt (38 ∷ []) more
-Apart chain.Conjunction more = Behind more
+Apart chain.Filter more = EndsTerm more × NotAt (38 ∷ []) more
+Apart chain.Conjunction more = EndsTerm more
 
 -- the byte that joins them does
 joint-apart : (c : Chain) (b : Bytes) → Apart c (joining c ∷ b)

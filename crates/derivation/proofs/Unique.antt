@@ -11,7 +11,7 @@ use Rattle.query.specs.Syntax.{Path}
 use Rattle.query.specs.Table.{entryBytes}
 use Rattle.text.specs.Written.{tableOf}
 use Rattle.text.specs.Promise.{Breaks, OneTooMany, TextFault, bad-length, breaks, too-deep, too-large, TextOf, TableGiven, TextRead}
-use Rattle.reading.proofs.Place.{path-unique}
+use Rattle.derivation.proofs.Place.{path-unique}
 
 module _ (text : Bytes) where
   -- a text breaks no earlier than elsewhere

@@ -11,15 +11,15 @@ use Rattle.reply.specs.Bytes.{Bytes}
 use Rattle.query.specs.Syntax.{Path, Filter, labelled}
 use Rattle.text.specs.Promise.{opening, closing, howMany}
 use Rattle.text.specs.Grammar.{PathText}
-use Rattle.reading.proofs.Rules.{got}
-use Rattle.reading.proofs.Follows.{text-read}
-use Rattle.reading.proofs.NextByte.{digit-opens-nothing, digit-closes-nothing}
-use Rattle.reading.proofs.Machine.{PathPlace, top, in-round, in-filter, FilterPlace, in-square, in-curly, State, start, item}
-use Rattle.reading.proofs.Machine.{item-read, term, term-read, hash, label, Offers, nothing, ends, on, digit, Digit, dec-digit, Next}
-use Rattle.reading.proofs.Machine.{stuck, goes, finished, look, ons, atoms, offer, depth, path-depth, filter-depth, Moves, stays}
-use Rattle.reading.proofs.Machine.{moves}
-use Rattle.reading.proofs.Machine.{behind-filter, behind-term, behind-path}
-use Rattle.reading.proofs.Led.{Led, led, led-chain}
+use Rattle.derivation.proofs.Rules.{got}
+use Rattle.derivation.proofs.Complete.{text-read}
+use Rattle.derivation.proofs.NextByte.{digit-opens-nothing, digit-closes-nothing}
+use Rattle.derivation.proofs.Machine.{PathPlace, top, in-round, in-filter, FilterPlace, in-square, in-curly, State, start, item}
+use Rattle.derivation.proofs.Machine.{item-read, term, term-read, hash, label, Offers, nothing, ends, on, digit, Digit, dec-digit, Next}
+use Rattle.derivation.proofs.Machine.{stuck, goes, finished, look, ons, atoms, offer, depth, path-depth, filter-depth, Moves, stays}
+use Rattle.derivation.proofs.Machine.{moves}
+use Rattle.derivation.proofs.Machine.{behind-filter, behind-term, behind-path}
+use Rattle.derivation.proofs.Led.{Led, led, led-chain}
 
 -- how many brackets a byte opens
 abbrev opens : ℕ → ℕ

@@ -8,18 +8,18 @@ use Rattle.reply.specs.Bytes.{Bytes}
 use Rattle.query.specs.Syntax.{Path, self, stay, Filter, always}
 use Rattle.text.specs.Grammar as grammar
 use Rattle.text.specs.Grammar.{LabelText, PathText, SequenceText, ItemText, AtomText, FilterText, ConjunctionText, TermText}
-use Rattle.reading.specs.declared.Chain.{Chain}
-use Rattle.reading.specs.declared.Chain.the-variants as chain
-use Rattle.reading.specs.declared.Bracket.{Bracket}
-use Rattle.reading.specs.declared.Bracket.the-variants as brackets
-use Rattle.reading.proofs.Parts.{Joined, join, joining, inside, openingByte, closingByte}
-use Rattle.reading.proofs.Rules.{Stop, broken, deep, Result, got, stopped, LabelReads, one-digit, two-digits, no-digit}
-use Rattle.reading.proofs.Rules.{StarsRead, one-more, no-more}
-use Rattle.reading.proofs.Rules.{ChainReads, starts, start-stops, GoesOn, joined, joined-stops, ends}
-use Rattle.reading.proofs.Rules.{LinkReads, sequence, item, item-stops, conjunction, exclamation, exclamation-stops}
-use Rattle.reading.proofs.Rules.{letter-t, letter-f, hash, hash-stops, curly, a-path, a-path-stops}
-use Rattle.reading.proofs.Rules.{AtomReads, dot, letter-v, caret, greater, less, square, square-stops, round, no-atom}
-use Rattle.reading.proofs.Rules.{BracketReads, closed, stays-open, inside-stops, too-deep}
+use Rattle.derivation.specs.declared.Chain.{Chain}
+use Rattle.derivation.specs.declared.Chain.the-variants as chain
+use Rattle.derivation.specs.declared.Bracket.{Bracket}
+use Rattle.derivation.specs.declared.Bracket.the-variants as brackets
+use Rattle.derivation.proofs.Parts.{Joined, join, joining, inside, openingByte, closingByte}
+use Rattle.derivation.proofs.Rules.{Stop, broken, deep, Result, got, stopped, LabelReads, one-digit, two-digits, no-digit}
+use Rattle.derivation.proofs.Rules.{StarsRead, one-more, no-more}
+use Rattle.derivation.proofs.Rules.{ChainReads, starts, start-stops, GoesOn, joined, joined-stops, ends}
+use Rattle.derivation.proofs.Rules.{LinkReads, sequence, item, item-stops, conjunction, exclamation, exclamation-stops}
+use Rattle.derivation.proofs.Rules.{letter-t, letter-f, hash, hash-stops, curly, a-path, a-path-stops}
+use Rattle.derivation.proofs.Rules.{AtomReads, dot, letter-v, caret, greater, less, square, square-stops, round, no-atom}
+use Rattle.derivation.proofs.Rules.{BracketReads, closed, stays-open, inside-stops, too-deep}
 
 -- The bytes begin with a text of x, and `more` is behind it.
 pub record Span {A : Type 0} (Text : Bytes → A → Type 0) (b : Bytes) (x : A) (more : Bytes) : Type 0 where

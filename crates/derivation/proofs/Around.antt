@@ -6,14 +6,14 @@ use lib.Dec.{T}
 use Rattle.reply.specs.Bytes.{Bytes}
 use Rattle.query.specs.Syntax.{Path, stay, Filter}
 use Rattle.text.specs.Promise.{opening}
-use Rattle.reading.specs.declared.Chain.{Chain}
-use Rattle.reading.specs.declared.Chain.the-variants as chain
-use Rattle.reading.specs.declared.Bracket.{Bracket}
-use Rattle.reading.specs.declared.Bracket.the-variants as bracket
-use Rattle.reading.proofs.Parts.{Joined, join, joining, inside, openingByte, closingByte}
-use Rattle.reading.proofs.Machine.{PathPlace, FilterPlace, in-round, in-square, in-curly, State, item, item-read, term, term-read}
-use Rattle.reading.proofs.Machine.{Offers, nothing, on, look, goes, offer, depth, path-depth, filter-depth}
-use Rattle.reading.proofs.Machine.{behind-filter, behind-conjunction, behind-path, behind-sequence}
+use Rattle.derivation.specs.declared.Chain.{Chain}
+use Rattle.derivation.specs.declared.Chain.the-variants as chain
+use Rattle.derivation.specs.declared.Bracket.{Bracket}
+use Rattle.derivation.specs.declared.Bracket.the-variants as bracket
+use Rattle.derivation.proofs.Parts.{Joined, join, joining, inside, openingByte, closingByte}
+use Rattle.derivation.proofs.Machine.{PathPlace, FilterPlace, in-round, in-square, in-curly, State, item, item-read, term, term-read}
+use Rattle.derivation.proofs.Machine.{Offers, nothing, on, look, goes, offer, depth, path-depth, filter-depth}
+use Rattle.derivation.proofs.Machine.{behind-filter, behind-conjunction, behind-path, behind-sequence}
 
 -- What is around a chain: the place of a path or of a filter; of its links that are chains, also what is made of them there.
 abbrev pub Around : Chain → Type 0

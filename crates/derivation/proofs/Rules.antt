@@ -7,11 +7,11 @@ use mathlib.Core.List.{List, [], _∷_, List·Memᴰ}
 use Rattle.reply.specs.Bytes.{Bytes}
 use Rattle.query.specs.Syntax.{Path, self, child, parent, next, previous, stay, star}
 use Rattle.query.specs.Syntax.{Filter, labelled, leads, always, never, not}
-use Rattle.reading.specs.declared.Chain.{Chain}
-use Rattle.reading.specs.declared.Chain.the-variants as chain
-use Rattle.reading.specs.declared.Bracket.{Bracket}
-use Rattle.reading.specs.declared.Bracket.the-variants as bracket
-use Rattle.reading.proofs.Parts.{Joined, join, joining, inside, openingByte, closingByte}
+use Rattle.derivation.specs.declared.Chain.{Chain}
+use Rattle.derivation.specs.declared.Chain.the-variants as chain
+use Rattle.derivation.specs.declared.Bracket.{Bracket}
+use Rattle.derivation.specs.declared.Bracket.the-variants as bracket
+use Rattle.derivation.proofs.Parts.{Joined, join, joining, inside, openingByte, closingByte}
 
 -- Why reading stops: at a byte that the grammar does not take, or at a bracket that is one too many.
 pub data Stop : Type 0 where

@@ -8,7 +8,7 @@ use lib.Dec.{T, T-not, eqb, eqb→eq, eqb-refl}
 use mir.Facts.{and-yes}
 use Rattle.reply.specs.Bytes.{Bytes}
 use Rattle.text.specs.Promise.{opening, closing}
-use Rattle.reading.proofs.Rules.{NotAt, other}
+use Rattle.derivation.proofs.Rules.{NotAt, other}
 
 -- a test that a byte is none of these
 abbrev pub apart : ℕ → List ℕ → Bool

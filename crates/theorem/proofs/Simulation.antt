@@ -9,7 +9,7 @@ use Rattle.query.specs.Syntax.{Filter, leads, not, and, or}
 use Rattle.query.specs.Meaning.{Star, stop, step, reach, holds}
 
 -- Where p leads on t from a node, q leads on u from each node tied to it, to a node tied to where p led.
-pub record Follows (t u : Tree) (Tied : ℕ → ℕ → Type 0) (p q : Path) : Type 0 where
+pub record Simulates (t u : Tree) (Tied : ℕ → ℕ → Type 0) (p q : Path) : Type 0 where
   pub move : {i a j : ℕ} → Tied i a → reach t p i j → (b : ℕ) × Tied j b × reach u q a b
 
 -- Where f holds on t at a node, g holds on u at each node tied to it.
@@ -22,19 +22,19 @@ turned Tied a i = Tied i a
 
 module _ {t u : Tree} {Tied : ℕ → ℕ → Type 0} where
   -- both stay where they are
-  pub follows-self : Follows t u Tied self self
+  pub simulates-self : Simulates t u Tied self self
   unfolding reach
-  follows-self = record { move = λ {i} {a} {j} z e. (a, rw e at z, refl) }
+  simulates-self = record { move = λ {i} {a} {j} z e. (a, rw e at z, refl) }
 
   -- both stay, if their filters hold
-  pub follows-stay : {f g : Filter} → Implies t u Tied f g → Follows t u Tied (stay f) (stay g)
+  pub simulates-stay : {f g : Filter} → Implies t u Tied f g → Simulates t u Tied (stay f) (stay g)
   unfolding reach
-  follows-stay h = record { move = λ {i} {a} {j} z r. (a, rw (r .0) at z, (refl, h .keep z (r .1))) }
+  simulates-stay h = record { move = λ {i} {a} {j} z r. (a, rw (r .0) at z, (refl, h .keep z (r .1))) }
 
   -- one after the other
-  pub follows-then : {p q x y : Path} → Follows t u Tied p x → Follows t u Tied q y → Follows t u Tied (then p q) (then x y)
+  pub simulates-then : {p q x y : Path} → Simulates t u Tied p x → Simulates t u Tied q y → Simulates t u Tied (then p q) (then x y)
   unfolding reach
-  follows-then f g =
+  simulates-then f g =
       record {
         move = λ z r.
             let (c, w, m) = f .move z (r .1) in
@@ -43,18 +43,18 @@ module _ {t u : Tree} {Tied : ℕ → ℕ → Type 0} where
       }
 
   -- each of two ways is followed
-  pub follows-either : {p q x y : Path} → Follows t u Tied p x → Follows t u Tied q y → Follows t u Tied (either p q) (either x y)
+  pub simulates-either : {p q x y : Path} → Simulates t u Tied p x → Simulates t u Tied q y → Simulates t u Tied (either p q) (either x y)
   unfolding reach
-  follows-either {p} {q} {x} {y} f g = record { move = go }
+  simulates-either {p} {q} {x} {y} f g = record { move = go }
     where
       go : {i a j : ℕ} → Tied i a → reach t (either p q) i j → (b : ℕ) × Tied j b × reach u (either x y) a b
       go z (inl r) = let (b, w, m) = f .move z r in (b, w, inl m)
       go z (inr r) = let (b, w, m) = g .move z r in (b, w, inr m)
 
   -- step by step
-  pub follows-star : {p x : Path} → Follows t u Tied p x → Follows t u Tied (star p) (star x)
+  pub simulates-star : {p x : Path} → Simulates t u Tied p x → Simulates t u Tied (star p) (star x)
   unfolding reach
-  follows-star {p} {x} f = record { move = go }
+  simulates-star {p} {x} f = record { move = go }
     where
       go : {i a j : ℕ} → Tied i a → Star (reach t p) i j → (b : ℕ) × Tied j b × Star (reach u x) a b
       go {a} z stop = (a, z, stop)
@@ -64,7 +64,7 @@ module _ {t u : Tree} {Tied : ℕ → ℕ → Type 0} where
           (b, y, step m n)
 
   -- where a path leads somewhere, so does one that follows it
-  pub implies-leads : {p x : Path} → Follows t u Tied p x → Implies t u Tied (leads p) (leads x)
+  pub implies-leads : {p x : Path} → Simulates t u Tied p x → Implies t u Tied (leads p) (leads x)
   unfolding holds
   implies-leads f = record { keep = λ z r. let (b, w, m) = f .move z (r .1) in (b, m) }
 

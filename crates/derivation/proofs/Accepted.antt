@@ -12,8 +12,8 @@ use Rattle.text.specs.Grammar.{PathText}
 use Rattle.text.specs.Written.{tableOf}
 use Rattle.text.specs.Promise.{Fits, TextOf}
 use Rattle.query.proofs.Bytes.{bytes-length}
-use Rattle.reading.proofs.Back.{table-back}
-use Rattle.reading.proofs.Ordered.{text-ordered}
+use Rattle.derivation.proofs.Back.{table-back}
+use Rattle.derivation.proofs.Ordered.{text-ordered}
 
 module _ {text : Bytes} {p : Path} (x : PathText text p) where
   -- a table that fits is a query
