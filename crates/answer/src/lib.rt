@@ -1,6 +1,7 @@
 // Call 3: a query is answered on a roll, and a set of nodes is given as a bitmap.
 use checks::ready_to_answer;
 use evaluator::Course;
+use evaluator::Walk;
 use evaluator::image;
 use links::NONE;
 use links::link;
@@ -50,16 +51,13 @@ pub fn reached(
     link(roll, &mut links);
     let mut from = empty();
     add(&mut from, start);
-    image(
-        roll,
-        &links,
-        query,
+    let last = entries_of(query) - 1;
+    let walk = Walk {
+        entry: last,
+        course: Course::Forwards,
         known,
-        holding,
-        entries_of(query) - 1,
-        Course::Forwards,
-        from,
-    )
+    };
+    image(roll, &links, query, holding, walk, from)
 }
 
 // Answer on a roll: "a bitmap of record numbers; room 512 bytes".

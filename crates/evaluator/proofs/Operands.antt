@@ -8,7 +8,9 @@ use lib.ListN.{length}
 use Rattle.reply.specs.Bytes.{Bytes}
 use Rattle.roll.specs.Roll.{nodes}
 use Rattle.tree.specs.Tree.{Tree}
+use Rattle.roll.proofs.Deciding.{roll-in-order}
 use Rattle.query.specs.Syntax as syntax
+use Rattle.query.specs.Syntax.{Path}
 use Rattle.query.specs.Meaning.{reach}
 use Rattle.query.specs.Kind.{Sort, path, filter, of, kinds, find}
 use Rattle.query.specs.Table as table
@@ -22,7 +24,8 @@ use Rattle.evaluator.specs.declared.course.Course.{Course}
 use Rattle.evaluator.specs.declared.course.Course.the-variants.{Forwards, Backwards, Freely}
 use Rattle.evaluator.specs.Course.{facing, pathOf, firstOf, OfKind}
 use Rattle.evaluator.specs.Evaluator.{InOrder, Knowing, Within, Asked, Then, Still}
-use Rattle.evaluator.proofs.Walks.{stay-still, then-parts}
+use Rattle.evaluator.proofs.Images.{Stays}
+use Rattle.evaluator.proofs.Walks.{walk-stays, stay-still, then-parts}
 
 -- the entry that a struct holds
 abbrev entryOf : Entry → table.Entry
@@ -43,16 +46,31 @@ pub operand-within : {tab : Bytes} {s o : Sort} {e x : ℕ} → Within tab s e �
 unfolding OperandField
 operand-within w (l, h) = (l, record { within = omega (arith, w .within); sort = h })
 
--- and is asked of a set of nodes: four times its number, and three more for a star above it, is below four times e.
-pub operand : {roll tab : Bytes} {links : List ℕ} {known : ℕ} {holding : List ℕ} {s o : Sort} {e x t : ℕ} {set : List ℕ}
-    → Knowing roll tab links known holding → Within tab s e → 4 * e ≡ t → OperandField (entries tab) e (of o) x → Inside (length (nodes roll)) set
-    → (4 * x + 3 < t) × (Knowing roll tab links known holding × Asked roll tab o x set)
-operand g w m f inside = let (l, w′) = operand-within w f in (omega arith, (g, record { entry = w′; nodes-only = inside }))
+-- What a function of the evaluator has once it has read the entry that is asked of a set of nodes.
+pub record Opened (roll tab : Bytes) (links : List ℕ) (known : ℕ) (holding : List ℕ) (s : Sort) (e : ℕ) (from : List ℕ) (read : Entry) : Type 0 where
+  pub given : Knowing roll tab links known holding
+  pub asked : Asked roll tab s e from
+  pub fields : Fields (entryAt (entries tab) e) read
 
-pub operand-below : {roll tab : Bytes} {links : List ℕ} {known : ℕ} {holding : List ℕ} {s o : Sort} {e x t : ℕ} {set : List ℕ}
-    → Knowing roll tab links known holding → Within tab s e → 4 * e ≡ t → OperandField (entries tab) e (of o) x → Inside (length (nodes roll)) set
-    → (4 * x < t) × (Knowing roll tab links known holding × Asked roll tab o x set)
-operand-below g w m f inside = let (l, more) = operand g w m f inside in (omega arith, more)
+module _ {roll tab : Bytes} {links : List ℕ} {known : ℕ} {holding : List ℕ} {s : Sort} {e : ℕ} {from : List ℕ} {read : Entry}
+    (k : Opened roll tab links known holding s e from read) where
+  pub entry-read : Read tab s e read
+  entry-read = record { order = k .given .grounds .each; entry = k .asked .entry; fields = k .fields }
+
+  -- a path stays among the nodes
+  pub path-stays : (p : Path) → Stays (length (nodes roll)) (reach (nodes roll) p)
+  path-stays p = walk-stays _ (roll-in-order (k .given .grounds .roll-right)) p
+
+  -- an operand is asked of nodes in its turn: four times its number, and three more for a star above it, is below four times e
+  pub operand : {o : Sort} {x t : ℕ} {set : List ℕ} → 4 * e ≡ t → OperandField (entries tab) e (of o) x → Inside (length (nodes roll)) set
+      → (4 * x + 3 < t) × (Knowing roll tab links known holding × Asked roll tab o x set)
+  operand m f inside =
+      let (l, w) = operand-within (k .asked .entry) f in
+      (omega arith, (k .given, record { entry = w; nodes-only = inside }))
+
+  pub operand-below : {o : Sort} {x t : ℕ} {set : List ℕ} → 4 * e ≡ t → OperandField (entries tab) e (of o) x → Inside (length (nodes roll)) set
+      → (4 * x < t) × (Knowing roll tab links known holding × Asked roll tab o x set)
+  operand-below m f inside = let (l, more) = operand m f inside in (omega arith, more)
 
 module _ {tab : Bytes} {s : Sort} {e : ℕ} {read : Entry} (k : Read tab s e read) where
   -- it is the table's

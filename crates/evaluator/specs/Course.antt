@@ -5,9 +5,11 @@ use mathlib.Core.Bool.{Bool, true, false}
 use Rattle.query.specs.Syntax as syntax
 use Rattle.query.specs.Syntax.{Path}
 use Rattle.query.specs.Turn.{turn, free}
+use Rattle.query.specs.Table.{Entries, pathAt}
 use Rattle.steps.specs.declared.axis.Axis.{Axis}
 use Rattle.steps.specs.declared.axis.Axis.the-variants.{Child, Parent, Next, Previous}
 use Rattle.evaluator.specs.declared.course.Course.{Course}
+use Rattle.evaluator.specs.declared.course.Walk.{Walk}
 use Rattle.evaluator.specs.declared.course.Course.the-variants.{Forwards, Backwards, Freely}
 
 -- the path as it is, turned round, or with every filter taken to hold
@@ -15,6 +17,10 @@ abbrev pub facing : Course → Path → Path
 facing Forwards p = p
 facing Backwards p = turn p
 facing Freely p = free p
+
+-- the path of an entry, as it is walked
+abbrev pub walked : Entries → Walk → Path
+walked es walk = facing (walk .course) (pathAt es (walk .entry))
 
 abbrev pub backwards : Course → Bool
 backwards Forwards = false

@@ -19,6 +19,13 @@ pub enum Course {
     Freely,
 }
 
+// How the path of an entry is walked: on a course. Of one filter, of number `known`, the nodes where it holds may be known beforehand.
+pub struct Walk {
+    pub entry: usize,
+    pub course: Course,
+    pub known: usize,
+}
+
 fn is_back(course: Course) -> bool
     ensures { λ r. ⌜ r ≡ backwards course ⌝ }
 {

@@ -1,11 +1,12 @@
 // Paths and filters on sets of nodes: a path takes a set to its image, and a filter narrows a set to the nodes where it holds. The two
-// call each other, and the entry number falls. Of one filter, of number `known`, the nodes where it holds may be known beforehand.
+// call each other, and the entry number falls. Of one filter, of number `known`, the nodes where it holds may be known beforehand: `held`.
 mod at_hand;
 mod course;
 mod ways;
 
 use at_hand::stays_at_hand;
 pub use course::Course;
+pub use course::Walk;
 use course::axis_of;
 use course::first_of;
 use course::is_free;
@@ -28,112 +29,124 @@ use ways::way_of;
 ghost use mathlib.Core.Path.{_≡_};
 ghost use Rattle.roll.specs.Roll.{nodes};
 ghost use Rattle.query.specs.Kind.{path, filter};
-ghost use Rattle.query.specs.Meaning.{reach, holds};
+ghost use Rattle.query.specs.Meaning.{reach, holds, Star};
 ghost use Rattle.query.specs.Syntax as syntax;
-ghost use Rattle.query.specs.Table.{entries, entryAt, pathAt, filterAt};
+ghost use Rattle.query.specs.Table.{entries, entryAt, filterAt};
 ghost use Rattle.sets.specs.Sets.{Image, Narrowed};
-ghost use Rattle.evaluator.specs.Course.{facing};
+ghost use Rattle.evaluator.specs.Course.{walked};
 ghost use Rattle.evaluator.specs.Evaluator.{Knowing, Asked, Still, Sources};
 
-// What the path of entry e reaches from a set of nodes, on the course given.
+// What a walk reaches from a set of nodes.
 pub fn image(
     roll: &[u8],
     links: &[u16; 8192],
     table: &[u8],
-    known: usize,
     held: &[u64; 64],
-    e: usize,
-    course: Course,
+    walk: Walk,
     from: [u64; 64],
 ) -> [u64; 64]
-    requires { ⌜ Knowing (now roll) (now table) (now links) known (now held) × Asked (now roll) (now table) path e from ⌝ }
-    ensures { λ r. ⌜ Image (reach (nodes (now (roll .entry))) (facing course (pathAt (entries (now (table .entry))) e))) from r ⌝ }
+    requires { ⌜ Knowing (now roll) (now table) (now links) (walk .known) (now held) × Asked (now roll) (now table) path (walk .entry) from ⌝ }
+    ensures { λ r. ⌜ Image (reach (nodes (now (roll .entry))) (walked (entries (now (table .entry))) walk)) from r ⌝ }
 {
     if is_empty(from) {
         return from;
     }
-    let entry = entry_at(table, e);
+    let entry = entry_at(table, walk.entry);
     let kind = entry.kind;
     let left = entry.left;
     let right = entry.right;
+    let course = walk.course;
+    let mut there = walk;
     match kind {
         2 | 3 | 4 | 5 => step(roll, links, only(way(axis_of(kind), course)), from),
         6 => {
             if is_free(course) {
                 from
             } else {
-                narrow(roll, links, table, known, held, left, from)
+                narrow(roll, links, table, held, walk.known, left, from)
             }
         }
         7 => {
             let first = first_of(course, left, right);
             let second = first_of(course, right, left);
-            let half = image(roll, links, table, known, held, first, course, from);
-            image(roll, links, table, known, held, second, course, half)
+            there.entry = first;
+            let half = image(roll, links, table, held, there, from);
+            there.entry = second;
+            image(roll, links, table, held, there, half)
         }
         8 => {
-            let one = image(roll, links, table, known, held, left, course, from);
-            let other = image(roll, links, table, known, held, right, course, from);
+            there.entry = left;
+            let one = image(roll, links, table, held, there, from);
+            there.entry = right;
+            let other = image(roll, links, table, held, there, from);
             union(one, other)
         }
-        9 => star(roll, links, table, known, held, left, course, from),
+        9 => {
+            there.entry = left;
+            star(roll, links, table, held, there, from)
+        }
         _ => from,
     }
 }
 
-// What the path of entry e reaches in zero or more goes: along axes each node is gone on from once; of a star it is what that star
+// What a walk reaches in zero or more goes: along axes each node is gone on from once; of a star it is what that star
 // reaches; and a path made of others goes by rounds.
 fn star(
     roll: &[u8],
     links: &[u16; 8192],
     table: &[u8],
-    known: usize,
     held: &[u64; 64],
-    e: usize,
-    course: Course,
+    walk: Walk,
     from: [u64; 64],
 ) -> [u64; 64]
-    requires { ⌜ Knowing (now roll) (now table) (now links) known (now held) × Asked (now roll) (now table) path e from ⌝ }
-    ensures { λ r. ⌜ Image (reach (nodes (now (roll .entry))) (syntax.star (facing course (pathAt (entries (now (table .entry))) e)))) from r ⌝ }
+    requires { ⌜ Knowing (now roll) (now table) (now links) (walk .known) (now held) × Asked (now roll) (now table) path (walk .entry) from ⌝ }
+    ensures { λ r. ⌜ Image (reach (nodes (now (roll .entry))) (syntax.star (walked (entries (now (table .entry))) walk))) from r ⌝ }
 {
-    let entry = entry_at(table, e);
+    let entry = entry_at(table, walk.entry);
     let kind = entry.kind;
     match kind {
-        7 => of_two(roll, links, table, known, held, e, course, from),
-        9 => star(roll, links, table, known, held, entry.left, course, from),
+        7 => of_two(roll, links, table, held, walk, from),
+        9 => {
+            let mut there = walk;
+            there.entry = entry.left;
+            star(roll, links, table, held, there, from)
+        }
         _ => {
-            let way = way_of(table, e, course, DEEP);
+            let course = walk.course;
+            let way = way_of(table, walk.entry, course, DEEP);
             match way {
                 Way::Along(axes) => closure(roll, links, axes, below(4096), from),
-                Way::Otherwise => by_rounds(roll, links, table, known, held, e, course, from),
+                Way::Otherwise => by_rounds(roll, links, table, held, walk, from),
             }
         }
     }
 }
 
-// The star of entry e, which is one path and then another: where one of the two is a filter at hand and the other leads along axes, it goes
+// The star of a walk along one path and then another: where one of the two is a filter at hand and the other leads along axes, it goes
 // on from each node once. A step and then the filter, many times, is a step, then the filter and a step many times, and the filter.
 fn of_two(
     roll: &[u8],
     links: &[u16; 8192],
     table: &[u8],
-    known: usize,
     held: &[u64; 64],
-    e: usize,
-    course: Course,
+    walk: Walk,
     from: [u64; 64],
 ) -> [u64; 64]
-    requires { ⌜ Knowing (now roll) (now table) (now links) known (now held) × Asked (now roll) (now table) path e from ⌝ }
-    requires { ⌜ entryAt (entries (now table)) e .kind ≡ 7 ⌝ }
-    ensures { λ r. ⌜ Image (reach (nodes (now (roll .entry))) (syntax.star (facing course (pathAt (entries (now (table .entry))) e)))) from r ⌝ }
+    requires { ⌜ Knowing (now roll) (now table) (now links) (walk .known) (now held) × Asked (now roll) (now table) path (walk .entry) from ⌝ }
+    requires { ⌜ entryAt (entries (now table)) (walk .entry) .kind ≡ 7 ⌝ }
+    ensures { λ r. ⌜ Image (reach (nodes (now (roll .entry))) (syntax.star (walked (entries (now (table .entry))) walk))) from r ⌝ }
 {
-    let entry = entry_at(table, e);
+    let entry = entry_at(table, walk.entry);
+    let course = walk.course;
+    let known = walk.known;
+    let mut there = walk;
     let first = first_of(course, entry.left, entry.right);
     let second = first_of(course, entry.right, entry.left);
     if stays_at_hand(table, known, first) {
         let way = way_of(table, second, course, DEEP);
         if let Way::Along(axes) = way {
-            let open = sources(roll, links, table, known, held, first, course, from);
+            there.entry = first;
+            let open = sources(roll, links, table, held, there, from);
             return closure(roll, links, axes, open, from);
         }
     } else {
@@ -141,58 +154,55 @@ fn of_two(
             let way = way_of(table, first, course, DEEP);
             if let Way::Along(axes) = way {
                 let begun = step(roll, links, axes, from);
-                let open = sources(roll, links, table, known, held, second, course, begun);
+                there.entry = second;
+                let open = sources(roll, links, table, held, there, begun);
                 let ends = closure(roll, links, axes, open, begun);
                 return union(from, common(ends, open));
             }
         }
     }
-    by_rounds(roll, links, table, known, held, e, course, from)
+    by_rounds(roll, links, table, held, walk, from)
 }
 
-// Where a star may go on that starts from a set: at the nodes of the roll where the filter of entry e holds, which are all asked at once. If
-// it holds at none of the set, the star ends there.
+// Where a star may go on that starts from a set: at the nodes of the roll where the filter holds that the walk stays by, which are all asked
+// at once. If it holds nowhere in the set, the star ends there.
 fn sources(
     roll: &[u8],
     links: &[u16; 8192],
     table: &[u8],
-    known: usize,
     held: &[u64; 64],
-    e: usize,
-    course: Course,
+    walk: Walk,
     from: [u64; 64],
 ) -> [u64; 64]
-    requires { ⌜ Knowing (now roll) (now table) (now links) known (now held) × Asked (now roll) (now table) path e from ⌝ }
-    requires { ⌜ Still (facing course (pathAt (entries (now table)) e)) ⌝ }
-    ensures { λ r. ⌜ Sources (nodes (now (roll .entry))) (facing course (pathAt (entries (now (table .entry))) e)) from r ⌝ }
+    requires { ⌜ Knowing (now roll) (now table) (now links) (walk .known) (now held) × Asked (now roll) (now table) path (walk .entry) from ⌝ }
+    requires { ⌜ Still (walked (entries (now table)) walk) ⌝ }
+    ensures { λ r. ⌜ Sources (nodes (now (roll .entry))) (walked (entries (now (table .entry))) walk) from r ⌝ }
 {
-    let here = image(roll, links, table, known, held, e, course, from);
+    let here = image(roll, links, table, held, walk, from);
     if is_empty(here) {
         return here;
     }
     let all = below(count(roll));
-    image(roll, links, table, known, held, e, course, all)
+    image(roll, links, table, held, walk, all)
 }
 
-// What the path of entry e reaches in zero or more goes, by rounds: it goes on from what is new in the last one, until nothing is.
+// What a walk reaches in zero or more goes, whatever it is made of, by rounds: it goes on from what is new in the last one, until nothing is.
 fn by_rounds(
     roll: &[u8],
     links: &[u16; 8192],
     table: &[u8],
-    known: usize,
     held: &[u64; 64],
-    e: usize,
-    course: Course,
+    walk: Walk,
     from: [u64; 64],
 ) -> [u64; 64]
-    requires { ⌜ Knowing (now roll) (now table) (now links) known (now held) × Asked (now roll) (now table) path e from ⌝ }
-    ensures { λ r. ⌜ Image (reach (nodes (now (roll .entry))) (syntax.star (facing course (pathAt (entries (now (table .entry))) e)))) from r ⌝ }
+    requires { ⌜ Knowing (now roll) (now table) (now links) (walk .known) (now held) × Asked (now roll) (now table) path (walk .entry) from ⌝ }
+    ensures { λ r. ⌜ Image (Star (reach (nodes (now (roll .entry))) (walked (entries (now (table .entry))) walk))) from r ⌝ }
 {
     let mut all = empty();
     let mut fresh = from;
     while !is_empty(fresh) {
         let grown = union(all, fresh);
-        let reached = image(roll, links, table, known, held, e, course, fresh);
+        let reached = image(roll, links, table, held, walk, fresh);
         let rest = difference(reached, grown);
         all = grown;
         fresh = rest;
@@ -206,8 +216,8 @@ pub fn narrow(
     roll: &[u8],
     links: &[u16; 8192],
     table: &[u8],
-    known: usize,
     held: &[u64; 64],
+    known: usize,
     e: usize,
     from: [u64; 64],
 ) -> [u64; 64]
@@ -227,22 +237,30 @@ pub fn narrow(
     match kind {
         16 => labelled(roll, entry.label, from),
         17 => {
-            let free = Course::Freely;
-            let back = Course::Backwards;
-            let ends = image(roll, links, table, known, held, left, free, from);
-            let starts = image(roll, links, table, known, held, left, back, ends);
+            let free = Walk {
+                entry: left,
+                course: Course::Freely,
+                known,
+            };
+            let back = Walk {
+                entry: left,
+                course: Course::Backwards,
+                known,
+            };
+            let ends = image(roll, links, table, held, free, from);
+            let starts = image(roll, links, table, held, back, ends);
             common(from, starts)
         }
         18 => from,
-        20 => difference(from, narrow(roll, links, table, known, held, left, from)),
+        20 => difference(from, narrow(roll, links, table, held, known, left, from)),
         21 => {
-            let first = narrow(roll, links, table, known, held, left, from);
-            narrow(roll, links, table, known, held, right, first)
+            let first = narrow(roll, links, table, held, known, left, from);
+            narrow(roll, links, table, held, known, right, first)
         }
         22 => {
-            let first = narrow(roll, links, table, known, held, left, from);
+            let first = narrow(roll, links, table, held, known, left, from);
             let rest = difference(from, first);
-            union(first, narrow(roll, links, table, known, held, right, rest))
+            union(first, narrow(roll, links, table, held, known, right, rest))
         }
         _ => empty(),
     }

@@ -49,8 +49,8 @@ fn answer_record(
             roll,
             links,
             filters,
-            entries_of(filters),
             &none,
+            entries_of(filters),
             own.filter,
             all,
         );

@@ -8,7 +8,7 @@ use Rattle.answer.proofs.reached.Tie as tie
 
 -- the function's entry, from where the entries are counted
 abbrev began : tie.After-count → tie.Start
-began c = c .before .before .before .before .before .before .before .before .before
+began c = c .before .before .before .before .before .before .before .before
 
 link-requires : tie.Need-link-requires
 link-requires c κs = search needs
@@ -24,21 +24,22 @@ add-requires c κs =
 count-requires : tie.Need-count-requires
 count-requires c κs = search needs
 
-sub-image : tie.Need-sub-image
-sub-image c = omega (arith, c .count .ensures, some-entry (began c .pre .0 .1))
+sub-last : tie.Need-sub-last
+sub-last c = omega (arith, c .count .ensures, some-entry (began c .pre .0 .1))
 
 image-requires : tie.Need-image-requires
 image-requires c κs =
-    let added = c .before .before in
-    let begun = began c .pre in (
+    let counted = c .before in
+    let added = counted .before in
+    let begun = began counted .pre in (
       record { grounds = query-grounds (begun .0 .1) (begun .0 .0) (added .before .before .before .link .ensures); answer = begun .1 .1 },
-      query-asked (begun .0 .1) (added .before .before .empty .ensures) (added .add .ensures) (c .count .ensures) (begun .1 .0),
+      query-asked (begun .0 .1) (added .before .before .empty .ensures) (added .add .ensures) (counted .count .ensures) (begun .1 .0),
     )
 
 returns : tie.Need-returns
 returns c =
-    let counted = c .before in
-    let added = counted .before .before in
+    let counted = c .before .before in
+    let added = counted .before in
     query-reached (began counted .pre .0 .1) (added .before .before .empty .ensures) (added .add .ensures) _ _ (counted .count .ensures) (c .image .ensures)
 
 pub reached-spec : {M : Type 1} → statement M
@@ -49,6 +50,6 @@ reached-spec =
     empty-requires
     add-requires
     count-requires
-    sub-image
+    sub-last
     image-requires
     returns)

@@ -14,10 +14,10 @@ use Rattle.roll.specs.Roll.{nodes}
 use Rattle.roll.proofs.Deciding.{roll-in-order, roll-most}
 use Rattle.query.specs.Kind.{path}
 use Rattle.query.specs.Meaning.{reach}
-use Rattle.query.specs.Table.{entries, pathAt}
+use Rattle.query.specs.Table.{entries}
 use Rattle.sets.proofs.Size.{sizeOf, size-most}
 use Rattle.tree.proofs.Tests.{test-failed, test-passed}
-use Rattle.evaluator.specs.Course.{facing}
+use Rattle.evaluator.specs.Course.{walked}
 use Rattle.evaluator.specs.Evaluator.{Knowing, Asked}
 use Rattle.evaluator.proofs.Rounds.{Rounds, first-round, next-round, round-adds, last-round}
 use Rattle.evaluator.proofs.Walks.{walk-stays}
@@ -40,11 +40,11 @@ abbrev claims : ℕ → lts.Claims
 claims t = (empty.Asked, empty.Learnt, is-empty.Asked, is-empty.Learnt, union.Asked, union.Learnt, calls.asked image-kinds.ps μ-image image.Pre t, image.Post, difference.Asked, difference.Learnt)
 
 abbrev Inv-loop : lts.InvT-loop
-Inv-loop roll links table known holding e course all₀ fresh₀ all fresh =
-    Rounds (length (nodes roll)) (reach (nodes roll) (facing course (pathAt (entries table) e))) fresh₀ all fresh
+Inv-loop roll links table held walk all₀ fresh₀ all fresh =
+    Rounds (length (nodes roll)) (reach (nodes roll) (walked (entries table) walk)) fresh₀ all fresh
 
 abbrev μ-loop : lts.MeasureT-loop
-μ-loop roll links table known holding e course all₀ fresh₀ all fresh = 4096 - sizeOf all
+μ-loop roll links table held walk all₀ fresh₀ all fresh = 4096 - sizeOf all
 
 module _ (t : ℕ) where
   -- at the loop's head: what the function was given
@@ -52,10 +52,10 @@ module _ (t : ℕ) where
     abbrev start : lts.Start (claims t) (own t) by-rounds.Post Inv-loop μ-loop
     start = c .before .before .before .before
 
-    given : Knowing (now (start .args .roll)) (now (start .args .table)) (now (start .args .links)) (start .args .known) (now (start .args .held))
+    given : Knowing (now (start .args .roll)) (now (start .args .table)) (now (start .args .links)) (start .args .walk .known) (now (start .args .held))
     given = start .pre .1 .0
 
-    asked : Asked (now (start .args .roll)) (now (start .args .table)) path (start .args .e) (start .args .from)
+    asked : Asked (now (start .args .roll)) (now (start .args .table)) path (start .args .walk .entry) (start .args .from)
     asked = start .pre .1 .1
 
   empty-requires : lts.Need-empty-requires (claims t) (own t) by-rounds.Post Inv-loop μ-loop
@@ -95,7 +95,6 @@ module _ (t : ℕ) where
       next-round (head .loop .inv) (walk-stays _ (roll-in-order (given head .grounds .roll-right)) _) (united .union .ensures) (c .before .image .ensures) (c .difference .ensures)
 
   returns : lts.Need-returns (claims t) (own t) by-rounds.Post Inv-loop μ-loop
-  unfolding reach
   returns c = last-round (c .before .before .loop .inv) (test-passed (c .before .is-empty .result) (c .before .is-empty .ensures) (c .if1 .left))
 
   pub meets : {M : Type 1} → lts.Closed (claims t) (own t) by-rounds.Post M

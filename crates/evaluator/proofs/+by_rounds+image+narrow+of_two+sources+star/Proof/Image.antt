@@ -25,9 +25,9 @@ use Rattle.evaluator.specs.declared.course.Course.{Course}
 use Rattle.evaluator.specs.declared.course.Course.the-variants.{Forwards, Backwards, Freely}
 use Rattle.evaluator.specs.Course.{firstOf}
 use Rattle.evaluator.specs.Evaluator.{Knowing, Asked}
-use Rattle.evaluator.proofs.Images.{Stays, image-empty, image-inside, image-same, image-then}
-use Rattle.evaluator.proofs.Operands.{Read, none-behind, operand, operand-below, is-self, is-axis, is-stay, is-then, is-either, is-star}
-use Rattle.evaluator.proofs.Walks.{walk-stays, walk-self, walk-free, walk-stay, walk-either, walk-star, then-parts}
+use Rattle.evaluator.proofs.Images.{image-empty, image-inside, image-same, image-then}
+use Rattle.evaluator.proofs.Operands.{none-behind, Opened, entry-read, path-stays, operand, operand-below, is-self, is-axis, is-stay, is-either, is-star, Parts, parts-of}
+use Rattle.evaluator.proofs.Walks.{walk-self, walk-free, walk-stay, walk-either, walk-star}
 use Rattle.evaluator.proofs.+by_rounds+image+narrow+of_two+sources+star.Proof.Measures.{μ-image, μ-narrow, μ-star}
 use Rattle.evaluator.proofs.+by_rounds+image+narrow+of_two+sources+star.Lts-image as lts
 use Rattle.evaluator.proofs.narrow.Reads as narrow
@@ -71,29 +71,9 @@ module _ (t : ℕ) where
     abbrev tree : Tree
     tree = nodes (now (start .args .roll))
 
-    given : Knowing (now (start .args .roll)) (now (start .args .table)) (now (start .args .links)) (start .args .known) (now (start .args .held))
-    given = start .pre .1 .0
-
-    inside : Inside (length tree) (start .args .from)
-    inside = start .pre .1 .1 .nodes-only
-
-    read : Read (now (start .args .table)) path (start .args .e) (c .entry-at .result)
-    read = record { order = given .grounds .each; entry = start .pre .1 .1 .entry; fields = c .entry-at .ensures }
-
-    measured : 4 * start .args .e ≡ t
-    measured = start .pre .0
-
-    -- an operand can be asked of a set of nodes in a call of its own
-    abbrev Callable : Sort → ℕ → List ℕ → Type 0
-    Callable o x set =
-        (4 * x < t) × (Knowing (now (start .args .roll)) (now (start .args .table)) (now (start .args .links)) (start .args .known) (now (start .args .held))
-        × Asked (now (start .args .roll)) (now (start .args .table)) o x set)
-
-    ask : {o : Sort} {x : ℕ} {set : List ℕ} → OperandField (entries (now (start .args .table))) (start .args .e) (of o) x → Inside (length tree) set → Callable o x set
-    ask = operand-below given (read .entry) measured
-
-    stays : (p : Path) → Stays (length tree) (reach tree p)
-    stays p = walk-stays tree (roll-in-order (given .grounds .roll-right)) p
+    opened : Opened (now (start .args .roll)) (now (start .args .table)) (now (start .args .links)) (start .args .walk .known)
+        (now (start .args .held)) path (start .args .walk .entry) (start .args .from) (c .entry-at .result)
+    opened = record { given = start .pre .1 .0; asked = start .pre .1 .1; fields = c .entry-at .ensures }
 
   -- one step along an axis
   axis-of-requires : lts.Need-axis-of-requires (claims t) (own t) image.Post
@@ -106,7 +86,7 @@ module _ (t : ℕ) where
   only-requires c κs = search needs
 
   step-requires : lts.Need-step-requires (claims t) (own t) image.Post
-  step-requires c κs = let g = given (c .before .before .before .before .before .before) in (g .grounds .roll-right, g .grounds .linked)
+  step-requires c κs = let g = opened (c .before .before .before .before .before .before) .given in (g .grounds .roll-right, g .grounds .linked)
 
   returns-7 : lts.Need-returns-7 (claims t) (own t) image.Post
   returns-7 c =
@@ -114,7 +94,7 @@ module _ (t : ℕ) where
       let turned = alone .before in
       let found = turned .before in
       let k = found .before .before .before .before in
-      rw (is-axis (read k) (found .axis-of .ensures))
+      rw (is-axis (entry-read (opened k)) (found .axis-of .ensures))
       (image-same (λ i j. Iff·trans (alone .only .ensures (tree k) i j) (turned .way .ensures (tree k) i j)) (c .step .ensures))
 
   -- stay if the filter holds, or where it is taken to hold
@@ -125,73 +105,65 @@ module _ (t : ℕ) where
   returns-2 c =
       let tested = c .before in
       let k = tested .before .before in
-      rw (is-stay (read k) (tested .before .match .keys1) .1)
-      (walk-free (tree k) (start k .args .course) _ (sym (tested .is-free .ensures) ∙ c .if2 .taken))
+      rw (is-stay (entry-read (opened k)) (tested .before .match .keys1) .1)
+      (walk-free (tree k) (start k .args .walk .course) _ (sym (tested .is-free .ensures) ∙ c .if2 .taken))
 
   narrow-requires : lts.Need-narrow-requires (claims t) (own t) image.Post
   narrow-requires c κs =
       let k = c .before .before .before in
-      ask k (is-stay (read k) (c .before .before .match .keys1) .0) (inside k)
+      operand-below (opened k) (start k .pre .0) (is-stay (entry-read (opened k)) (c .before .before .match .keys1) .0) (start k .pre .1 .1 .nodes-only)
 
   returns-3 : lts.Need-returns-3 (claims t) (own t) image.Post
   returns-3 c =
       let tested = c .before .before in
       let k = tested .before .before in
-      rw (is-stay (read k) (tested .before .match .keys1) .1)
-      (walk-stay (tree k) (start k .args .course) _ (sym (tested .is-free .ensures) ∙ c .before .if2 .left) (c .narrow .ensures))
+      rw (is-stay (entry-read (opened k)) (tested .before .match .keys1) .1)
+      (walk-stay (tree k) (start k .args .walk .course) _ (sym (tested .is-free .ensures) ∙ c .before .if2 .left) (c .narrow .ensures))
 
   -- left, then right, or the other way round: what comes first is asked of the set, and what comes second of what that reaches
-  first-asked : (c : lts.After-entry-at (claims t) (own t) image.Post) {set : List ℕ} → c .entry-at .result .kind ≡ 7 → Inside (length (tree c)) set
-      → (course : Course)
-      → Callable c path (firstOf course (c .entry-at .result .left) (c .entry-at .result .right)) set
-      × Callable c path (firstOf course (c .entry-at .result .right) (c .entry-at .result .left)) set
-  first-asked c is within Forwards = let (l, r) = is-then (read c) is .0 in (ask c l within, ask c r within)
-  first-asked c is within Backwards = let (l, r) = is-then (read c) is .0 in (ask c r within, ask c l within)
-  first-asked c is within Freely = let (l, r) = is-then (read c) is .0 in (ask c l within, ask c r within)
-
   first-of-requires : lts.Need-first-of-requires (claims t) (own t) image.Post
   first-of-requires c κs = search needs
-
-  image-requires : lts.Need-image-requires (claims t) (own t) image.Post
-  image-requires c κs =
-      let one = c .before in
-      let m = one .before in
-      let k = m .before in
-      rw (one .first-of .ensures) (first-asked k (m .match .keys2) (inside k) (start k .args .course) .0)
 
   first-of-requires-2 : lts.Need-first-of-requires-2 (claims t) (own t) image.Post
   first-of-requires-2 c κs = search needs
 
+  module _ (found : lts.After-first-of2 (claims t) (own t) image.Post) where
+    abbrev whole : lts.After-entry-at (claims t) (own t) image.Post
+    whole = found .before .before .before
+
+    parts : Parts (now (start whole .args .table)) (start whole .args .walk .course) (start whole .args .walk .entry) (found .before .first-of .result)
+        (found .first-of2 .result)
+    parts =
+        parts-of (entry-read (opened whole)) (found .before .before .match .keys2) (start whole .args .walk .course) (found .before .first-of .ensures)
+        (found .first-of2 .ensures)
+
+  image-requires : lts.Need-image-requires (claims t) (own t) image.Post
+  image-requires c κs =
+      let k = whole c in
+      operand-below (opened k) (start k .pre .0) (parts c .one) (start k .pre .1 .1 .nodes-only)
+
   image-requires-2 : lts.Need-image-requires-2 (claims t) (own t) image.Post
   image-requires-2 c κs =
-      let two = c .before in
-      let m = two .before .before in
-      let k = m .before in
-      rw (two .first-of2 .ensures)
-      (first-asked k (m .match .keys2) (image-inside (stays k _) (inside k) (c .image .ensures)) (start k .args .course) .1)
+      let k = whole (c .before) in
+      operand-below (opened k) (start k .pre .0) (parts (c .before) .other)
+      (image-inside (path-stays (opened k) _) (start k .pre .1 .1 .nodes-only) (c .image .ensures))
 
   returns-4 : lts.Need-returns-4 (claims t) (own t) image.Post
   returns-4 c =
       let half = c .before in
-      let two = half .before in
-      let one = two .before in
-      let k = one .before .before in
-      let es = entries (now (start k .args .table)) in
-      let first = rw (one .first-of .ensures) at (half .image .ensures) in
-      let second = rw (two .first-of2 .ensures) at (c .image2 .ensures) in
-      rw (is-then (read k) (one .before .match .keys2) .1)
-      (image-same (λ i j. Iff·symm (then-parts (pathAt es) (start k .args .course) _ _ (tree k) i j)) (image-then first second))
+      let k = whole (half .before) in
+      image-same (λ i j. Iff·symm (parts (half .before) .same (tree k) i j)) (image-then (half .image .ensures) (c .image2 .ensures))
 
   -- left or right
   image-requires-3 : lts.Need-image-requires-3 (claims t) (own t) image.Post
   image-requires-3 c κs =
       let k = c .before in
-      ask k (is-either (read k) (c .match .keys3) .0 .0) (inside k)
+      operand-below (opened k) (start k .pre .0) (is-either (entry-read (opened k)) (c .match .keys3) .0 .0) (start k .pre .1 .1 .nodes-only)
 
   image-requires-4 : lts.Need-image-requires-4 (claims t) (own t) image.Post
   image-requires-4 c κs =
       let k = c .before .before in
-      ask k (is-either (read k) (c .before .match .keys3) .0 .1) (inside k)
+      operand-below (opened k) (start k .pre .0) (is-either (entry-read (opened k)) (c .before .match .keys3) .0 .1) (start k .pre .1 .1 .nodes-only)
 
   union-requires : lts.Need-union-requires (claims t) (own t) image.Post
   union-requires c κs = search needs
@@ -201,28 +173,28 @@ module _ (t : ℕ) where
       let other = c .before in
       let one = other .before in
       let k = one .before .before in
-      rw (is-either (read k) (one .before .match .keys3) .1)
-      (walk-either (tree k) _ _ (start k .args .course) (one .image3 .ensures) (other .image4 .ensures) (c .union .ensures))
+      rw (is-either (entry-read (opened k)) (one .before .match .keys3) .1)
+      (walk-either (tree k) _ _ (start k .args .walk .course) (one .image3 .ensures) (other .image4 .ensures) (c .union .ensures))
 
   -- zero or more times
   star-requires : lts.Need-star-requires (claims t) (own t) image.Post
   star-requires c κs =
       let k = c .before in
-      operand (given k) (read k .entry) (measured k) (is-star (read k) (c .match .keys4) .0) (inside k)
+      operand (opened k) (start k .pre .0) (is-star (entry-read (opened k)) (c .match .keys4) .0) (start k .pre .1 .1 .nodes-only)
 
   returns-6 : lts.Need-returns-6 (claims t) (own t) image.Post
   returns-6 c =
       let k = c .before .before in
-      rw (is-star (read k) (c .before .match .keys4) .1) (walk-star (tree k) (start k .args .course) _ (c .star .ensures))
+      rw (is-star (entry-read (opened k)) (c .before .match .keys4) .1) (walk-star (tree k) (start k .args .walk .course) _ (c .star .ensures))
 
   -- self is the one path that is left, and none is behind 9
   numbers : (c : lts.After-entry-at (claims t) (own t) image.Post) → (1 ≤ c .entry-at .result .kind) × (c .entry-at .result .kind ≤ 9)
-  numbers c = rw (read c .fields .kind) (path-kind (entries (now (start c .args .table))) (start c .args .e) (read c .entry .sort))
+  numbers c = rw (opened c .fields .kind) (path-kind (entries (now (start c .args .table))) (start c .args .walk .entry) (start c .pre .1 .1 .entry .sort))
 
   returns-8 : lts.Need-returns-8 (claims t) (own t) image.Post
   returns-8 c =
       let k = c .before .before in
-      rw (is-self (read k) (omega (arith, numbers k))) (walk-self (tree k) (start k .args .course))
+      rw (is-self (entry-read (opened k)) (omega (arith, numbers k))) (walk-self (tree k) (start k .args .walk .course))
 
   returns-9 : lts.Need-returns-9 (claims t) (own t) image.Post
   returns-9 c =

@@ -21,10 +21,9 @@ use Rattle.query.proofs.Standing.{filter-kind}
 use Rattle.query.proofs.Turn.{turn-right, free-reaches}
 use Rattle.sets.specs.Sets.{Inside}
 use Rattle.evaluator.specs.Evaluator.{Knowing, Asked}
-use Rattle.evaluator.proofs.Images.{Stays, image-inside, narrowed-inside}
+use Rattle.evaluator.proofs.Images.{image-inside, narrowed-inside}
 use Rattle.evaluator.proofs.Filters.{narrow-empty, narrow-known, narrow-always, narrow-never, narrow-leads, narrow-not, narrow-and, narrow-or}
-use Rattle.evaluator.proofs.Operands.{Read, operand-below, is-labelled, is-leads, is-always, is-never, is-not, is-and, is-or}
-use Rattle.evaluator.proofs.Walks.{walk-stays}
+use Rattle.evaluator.proofs.Operands.{Opened, entry-read, path-stays, operand-below, is-labelled, is-leads, is-always, is-never, is-not, is-and, is-or}
 use Rattle.evaluator.proofs.+by_rounds+image+narrow+of_two+sources+star.Proof.Measures.{μ-image, μ-narrow}
 use Rattle.evaluator.proofs.+by_rounds+image+narrow+of_two+sources+star.Lts-narrow as lts
 use Rattle.evaluator.proofs.image.Reads as image
@@ -75,25 +74,9 @@ module _ (t : ℕ) where
     abbrev tree : Tree
     tree = nodes (now (start .args .roll))
 
-    given : Knowing (now (start .args .roll)) (now (start .args .table)) (now (start .args .links)) (start .args .known) (now (start .args .held))
-    given = start .pre .1 .0
-
-    inside : Inside (length tree) (start .args .from)
-    inside = start .pre .1 .1 .nodes-only
-
-    read : Read (now (start .args .table)) filter (start .args .e) (c .entry-at .result)
-    read = record { order = given .grounds .each; entry = start .pre .1 .1 .entry; fields = c .entry-at .ensures }
-
-    measured : 4 * start .args .e ≡ t
-    measured = start .pre .0
-
-    stays : (p : Path) → Stays (length tree) (reach tree p)
-    stays p = walk-stays tree (roll-in-order (given .grounds .roll-right)) p
-
-    ask : {o : Sort} {x : ℕ} {set : List ℕ} → OperandField (entries (now (start .args .table))) (start .args .e) (of o) x → Inside (length tree) set
-        → (4 * x < t) × (Knowing (now (start .args .roll)) (now (start .args .table)) (now (start .args .links)) (start .args .known) (now (start .args .held))
-        × Asked (now (start .args .roll)) (now (start .args .table)) o x set)
-    ask = operand-below given (read .entry) measured
+    opened : Opened (now (start .args .roll)) (now (start .args .table)) (now (start .args .links)) (start .args .known)
+        (now (start .args .held)) filter (start .args .e) (start .args .from) (c .entry-at .result)
+    opened = record { given = start .pre .1 .0; asked = start .pre .1 .1; fields = c .entry-at .ensures }
 
   -- label is the given one
   labelled-requires : lts.Need-labelled-requires (claims t) (own t) narrow.Post
@@ -103,21 +86,19 @@ module _ (t : ℕ) where
   unfolding holds
   returns-3 c =
       let k = c .before .before in
-      rw (is-labelled (read k) (c .before .match .keys1)) (c .labelled .ensures)
+      rw (is-labelled (entry-read (opened k)) (c .before .match .keys1)) (c .labelled .ensures)
 
   -- left leads somewhere
   image-requires : lts.Need-image-requires (claims t) (own t) narrow.Post
   image-requires c κs =
       let k = c .before in
-      ask k (is-leads (read k) (c .match .keys2) .0) (inside k)
+      operand-below (opened k) (start k .pre .0) (is-leads (entry-read (opened k)) (c .match .keys2) .0) (start k .pre .1 .1 .nodes-only)
 
   image-requires-2 : lts.Need-image-requires-2 (claims t) (own t) narrow.Post
   image-requires-2 c κs =
       let k = c .before .before in
-      let left = is-leads (read k) (c .before .match .keys2) .0 in
-      let ends = ask k left (image-inside (stays k _) (inside k) (c .image .ensures)) in
-      let asked = ask k left (inside k) in
-      search (ends, asked)
+      operand-below (opened k) (start k .pre .0) (is-leads (entry-read (opened k)) (c .before .match .keys2) .0)
+      (image-inside (path-stays (opened k) _) (start k .pre .1 .1 .nodes-only) (c .image .ensures))
 
   common-requires-2 : lts.Need-common-requires-2 (claims t) (own t) narrow.Post
   common-requires-2 c κs = search needs
@@ -129,19 +110,19 @@ module _ (t : ℕ) where
       let ends = starts .before in
       let k = ends .before .before in
       let p = pathAt (entries (now (start k .args .table))) (k .entry-at .result .left) in
-      rw (is-leads (read k) (ends .before .match .keys2) .1)
+      rw (is-leads (entry-read (opened k)) (ends .before .match .keys2) .1)
       (narrow-leads (free-reaches (tree k) p) (turn-right (tree k) p) (ends .image .ensures) (starts .image2 .ensures) (c .common2 .ensures))
 
   -- true
   returns-5 : lts.Need-returns-5 (claims t) (own t) narrow.Post
   unfolding holds
-  returns-5 c = let k = c .before in rw (is-always (read k) (c .match .keys3)) narrow-always
+  returns-5 c = let k = c .before in rw (is-always (entry-read (opened k)) (c .match .keys3)) narrow-always
 
   -- not
   narrow-requires : lts.Need-narrow-requires (claims t) (own t) narrow.Post
   narrow-requires c κs =
       let k = c .before in
-      ask k (is-not (read k) (c .match .keys4) .0) (inside k)
+      operand-below (opened k) (start k .pre .0) (is-not (entry-read (opened k)) (c .match .keys4) .0) (start k .pre .1 .1 .nodes-only)
 
   difference-requires : lts.Need-difference-requires (claims t) (own t) narrow.Post
   difference-requires c κs = search needs
@@ -150,31 +131,31 @@ module _ (t : ℕ) where
   unfolding holds
   returns-6 c =
       let k = c .before .before .before in
-      rw (is-not (read k) (c .before .before .match .keys4) .1) (narrow-not (c .before .narrow .ensures) (c .difference .ensures))
+      rw (is-not (entry-read (opened k)) (c .before .before .match .keys4) .1) (narrow-not (c .before .narrow .ensures) (c .difference .ensures))
 
   -- and
   narrow-requires-2 : lts.Need-narrow-requires-2 (claims t) (own t) narrow.Post
   narrow-requires-2 c κs =
       let k = c .before in
-      ask k (is-and (read k) (c .match .keys5) .0 .0) (inside k)
+      operand-below (opened k) (start k .pre .0) (is-and (entry-read (opened k)) (c .match .keys5) .0 .0) (start k .pre .1 .1 .nodes-only)
 
   narrow-requires-3 : lts.Need-narrow-requires-3 (claims t) (own t) narrow.Post
   narrow-requires-3 c κs =
       let k = c .before .before in
-      let within = narrowed-inside (inside k) (c .narrow2 .ensures) in
-      ask k (is-and (read k) (c .before .match .keys5) .0 .1) within
+      let within = narrowed-inside (start k .pre .1 .1 .nodes-only) (c .narrow2 .ensures) in
+      operand-below (opened k) (start k .pre .0) (is-and (entry-read (opened k)) (c .before .match .keys5) .0 .1) within
 
   returns-7 : lts.Need-returns-7 (claims t) (own t) narrow.Post
   unfolding holds
   returns-7 c =
       let k = c .before .before .before in
-      rw (is-and (read k) (c .before .before .match .keys5) .1) (narrow-and (c .before .narrow2 .ensures) (c .narrow3 .ensures))
+      rw (is-and (entry-read (opened k)) (c .before .before .match .keys5) .1) (narrow-and (c .before .narrow2 .ensures) (c .narrow3 .ensures))
 
   -- or
   narrow-requires-4 : lts.Need-narrow-requires-4 (claims t) (own t) narrow.Post
   narrow-requires-4 c κs =
       let k = c .before in
-      ask k (is-or (read k) (c .match .keys6) .0 .0) (inside k)
+      operand-below (opened k) (start k .pre .0) (is-or (entry-read (opened k)) (c .match .keys6) .0 .0) (start k .pre .1 .1 .nodes-only)
 
   difference-requires-2 : lts.Need-difference-requires-2 (claims t) (own t) narrow.Post
   difference-requires-2 c κs = search needs
@@ -182,8 +163,8 @@ module _ (t : ℕ) where
   narrow-requires-5 : lts.Need-narrow-requires-5 (claims t) (own t) narrow.Post
   narrow-requires-5 c κs =
       let k = c .before .before .before in
-      let within = narrowed-inside (inside k) (c .difference2 .ensures) in
-      ask k (is-or (read k) (c .before .before .match .keys6) .0 .1) within
+      let within = narrowed-inside (start k .pre .1 .1 .nodes-only) (c .difference2 .ensures) in
+      operand-below (opened k) (start k .pre .0) (is-or (entry-read (opened k)) (c .before .before .match .keys6) .0 .1) within
 
   union-requires : lts.Need-union-requires (claims t) (own t) narrow.Post
   union-requires c κs = search needs
@@ -195,7 +176,7 @@ module _ (t : ℕ) where
       let rest = second .before in
       let first = rest .before in
       let k = first .before .before in
-      rw (is-or (read k) (first .before .match .keys6) .1)
+      rw (is-or (entry-read (opened k)) (first .before .match .keys6) .1)
       (narrow-or (first .narrow4 .ensures) (rest .difference2 .ensures) (second .narrow5 .ensures) (c .union .ensures))
 
   -- false is the one filter that is left
@@ -206,9 +187,9 @@ module _ (t : ℕ) where
   unfolding holds
   returns-9 c =
       let k = c .before .before in
-      let numbers = rw (← k .entry-at .ensures .kind) at (filter-kind (entries (now (start k .args .table))) (start k .args .e) (read k .entry .sort)) in
+      let numbers = rw (← k .entry-at .ensures .kind) at (filter-kind (entries (now (start k .args .table))) (start k .args .e) (start k .pre .1 .1 .entry .sort)) in
       let is : k .entry-at .result .kind ≡ 19 = omega (arith, numbers, c .before .match .rest) in
-      rw (is-never (read k) is) (narrow-never (c .empty .ensures))
+      rw (is-never (entry-read (opened k)) is) (narrow-never (c .empty .ensures))
 
   pub meets : {M : Type 1} → lts.Closed (claims t) (own t) narrow.Post M
   meets = lts.spec (claims t) (own t) narrow.Post is-empty-requires returns common-requires returns-2 entry-at-requires labelled-requires

@@ -73,30 +73,30 @@ module _ (t : ℕ) where
     abbrev es : Entries
     es = entries (now (start .args .table))
 
-    given : Knowing (now (start .args .roll)) (now (start .args .table)) (now (start .args .links)) (start .args .known) (now (start .args .held))
+    given : Knowing (now (start .args .roll)) (now (start .args .table)) (now (start .args .links)) (start .args .walk .known) (now (start .args .held))
     given = start .pre .1 .0 .0
 
-    asked : Asked (now (start .args .roll)) (now (start .args .table)) path (start .args .e) (start .args .from)
+    asked : Asked (now (start .args .roll)) (now (start .args .table)) path (start .args .walk .entry) (start .args .from)
     asked = start .pre .1 .0 .1
 
     -- what is read is a composition
-    read : Read (now (start .args .table)) path (start .args .e) (found .before .before .entry-at .result)
+    read : Read (now (start .args .table)) path (start .args .walk .entry) (found .before .before .entry-at .result)
     read = record { order = given .grounds .each; entry = asked .entry; fields = found .before .before .entry-at .ensures }
 
-    parts : Parts (now (start .args .table)) (start .args .course) (start .args .e) (found .before .first-of .result) (found .first-of2 .result)
+    parts : Parts (now (start .args .table)) (start .args .walk .course) (start .args .walk .entry) (found .before .first-of .result) (found .first-of2 .result)
     parts =
-        parts-of read (found .before .before .entry-at .ensures .kind ∙ start .pre .1 .1) (start .args .course) (found .before .first-of .ensures)
+        parts-of read (found .before .before .entry-at .ensures .kind ∙ start .pre .1 .1) (start .args .walk .course) (found .before .first-of .ensures)
         (found .first-of2 .ensures)
 
     -- a part that is a filter is asked in a call of its own
-    filtered : {x : ℕ} {set : List ℕ} → OperandField es (start .args .e) (of path) x → entryAt es x .kind ≡ 6 → Inside (length tree) set
+    filtered : {x : ℕ} {set : List ℕ} → OperandField es (start .args .walk .entry) (of path) x → entryAt es x .kind ≡ 6 → Inside (length tree) set
         → (4 * x + 1 < t)
-        × ((Knowing (now (start .args .roll)) (now (start .args .table)) (now (start .args .links)) (start .args .known) (now (start .args .held))
+        × ((Knowing (now (start .args .roll)) (now (start .args .table)) (now (start .args .links)) (start .args .walk .known) (now (start .args .held))
         × Asked (now (start .args .roll)) (now (start .args .table)) path x set)
-        × Still (facing (start .args .course) (pathAt es x)))
+        × Still (facing (start .args .walk .course) (pathAt es x)))
     filtered f is inside =
         let (l, w) = operand-within (asked .entry) f in
-        (omega (arith, start .pre .0), ((given, record { entry = w; nodes-only = inside }), stays-at (given .grounds .each) w is (start .args .course)))
+        (omega (arith, start .pre .0), ((given, record { entry = w; nodes-only = inside }), stays-at (given .grounds .each) w is (start .args .walk .course)))
 
     -- steps stay among the nodes, and so does where the first one leads
     along : {axes : Axes} → Stays (length tree) (AlongAny tree axes)
@@ -146,8 +146,8 @@ module _ (t : ℕ) where
       let inside = asked s .nodes-only in
       let still = filtered s (parts s .one) (is-first tested) inside .1 .1 in
       let leads = rw (told .way .given .1) at (found .way-of .ensures) in
-      let p = facing (start s .args .course) (pathAt (es s) (s .before .first-of .result)) in
-      let q = facing (start s .args .course) (pathAt (es s) (s .first-of2 .result)) in
+      let p = facing (start s .args .walk .course) (pathAt (es s) (s .before .first-of .result)) in
+      let q = facing (start s .args .walk .course) (pathAt (es s) (s .first-of2 .result)) in
       image-star (λ i j. Iff·trans (then-along q (reach (tree s) p) leads i j) (Iff·symm (parts s .same (tree s) i j)))
       (filter-first still (along s) inside (sieve .sources .ensures) (image-star step-from (c .closure .ensures)))
 
@@ -196,8 +196,8 @@ module _ (t : ℕ) where
       let inside = begun-inside s (begun .step .ensures) in
       let still = filtered s (parts s .other) (is-last tested) inside .1 .1 in
       let leads = rw (told .way2 .given .1) at (found .way-of2 .ensures) in
-      let p = facing (start s .args .course) (pathAt (es s) (s .before .first-of .result)) in
-      let q = facing (start s .args .course) (pathAt (es s) (s .first-of2 .result)) in
+      let p = facing (start s .args .walk .course) (pathAt (es s) (s .before .first-of .result)) in
+      let q = facing (start s .args .walk .course) (pathAt (es s) (s .first-of2 .result)) in
       let star = image-star step-from (ends .closure2 .ensures) in
       image-star (λ i j. Iff·trans (along-then p (reach (tree s) q) leads i j) (Iff·symm (parts s .same (tree s) i j)))
       (step-first (begun .step .ensures) (filter-first still (along s) inside (sieve .sources2 .ensures) star)
@@ -210,6 +210,7 @@ module _ (t : ℕ) where
   by-rounds-requires c κs = let s = c .before .before in (omega (arith, start s .pre .0), (given s, asked s))
 
   returns-3 : lts.Need-returns-3 (claims t) (own t) of-two.Post
+  unfolding reach
   returns-3 c = c .by-rounds .ensures
 
   pub meets : {M : Type 1} → lts.Closed (claims t) (own t) of-two.Post M

@@ -39,10 +39,10 @@ module _ (t : ℕ) where
     abbrev tree : Tree
     tree = nodes (now (c .args .roll))
 
-    given : Knowing (now (c .args .roll)) (now (c .args .table)) (now (c .args .links)) (c .args .known) (now (c .args .held))
+    given : Knowing (now (c .args .roll)) (now (c .args .table)) (now (c .args .links)) (c .args .walk .known) (now (c .args .held))
     given = c .pre .1 .0 .0
 
-    asked : Asked (now (c .args .roll)) (now (c .args .table)) path (c .args .e) (c .args .from)
+    asked : Asked (now (c .args .roll)) (now (c .args .table)) path (c .args .walk .entry) (c .args .from)
     asked = c .pre .1 .0 .1
 
   image-requires : lts.Need-image-requires (claims t) (own t) sources.Post

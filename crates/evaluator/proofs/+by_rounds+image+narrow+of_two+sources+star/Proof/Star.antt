@@ -14,7 +14,7 @@ use Rattle.query.specs.Meaning.{reach}
 use Rattle.evaluator.specs.Evaluator.{Knowing, Asked}
 use Rattle.evaluator.proofs.Images.{image-star}
 use Rattle.evaluator.proofs.Walks.{walk-star-star}
-use Rattle.evaluator.proofs.Operands.{Read, operand, is-star}
+use Rattle.evaluator.proofs.Operands.{Opened, entry-read, operand, is-star}
 use Rattle.evaluator.proofs.Stepping.{star-of-steps}
 use Rattle.evaluator.proofs.+by_rounds+image+narrow+of_two+sources+star.Proof.Measures.{μ-by-rounds, μ-of-two, μ-star}
 use Rattle.evaluator.proofs.+by_rounds+image+narrow+of_two+sources+star.Lts-star as lts
@@ -48,20 +48,15 @@ module _ (t : ℕ) where
     abbrev tree : Tree
     tree = nodes (now (start .args .roll))
 
-    given : Knowing (now (start .args .roll)) (now (start .args .table)) (now (start .args .links)) (start .args .known) (now (start .args .held))
-    given = start .pre .1 .0
-
-    asked : Asked (now (start .args .roll)) (now (start .args .table)) path (start .args .e) (start .args .from)
-    asked = start .pre .1 .1
-
-    read : Read (now (start .args .table)) path (start .args .e) (c .entry-at .result)
-    read = record { order = given .grounds .each; entry = asked .entry; fields = c .entry-at .ensures }
+    opened : Opened (now (start .args .roll)) (now (start .args .table)) (now (start .args .links)) (start .args .walk .known)
+        (now (start .args .held)) path (start .args .walk .entry) (start .args .from) (c .entry-at .result)
+    opened = record { given = start .pre .1 .0; asked = start .pre .1 .1; fields = c .entry-at .ensures }
 
   -- one path and then another
   of-two-requires : lts.Need-of-two-requires (claims t) (own t) star.Post
   of-two-requires c κs =
       let k = c .before in
-      (omega (arith, start k .pre .0), ((given k, asked k), sym (k .entry-at .ensures .kind) ∙ c .match .keys1))
+      (omega (arith, start k .pre .0), ((opened k .given, opened k .asked), sym (k .entry-at .ensures .kind) ∙ c .match .keys1))
 
   returns : lts.Need-returns (claims t) (own t) star.Post
   returns c = c .of-two .ensures
@@ -70,17 +65,17 @@ module _ (t : ℕ) where
   star-requires : lts.Need-star-requires (claims t) (own t) star.Post
   star-requires c κs =
       let k = c .before in
-      let (l, more) = operand (given k) (read k .entry) refl (is-star (read k) (c .match .keys2) .0) (asked k .nodes-only) in
+      let (l, more) = operand (opened k) refl (is-star (entry-read (opened k)) (c .match .keys2) .0) (opened k .asked .nodes-only) in
       (omega (arith, start k .pre .0), more)
 
   returns-2 : lts.Need-returns-2 (claims t) (own t) star.Post
   returns-2 c =
       let k = c .before .before in
-      rw (is-star (read k) (c .before .match .keys2) .1) (walk-star-star (tree k) (start k .args .course) _ (c .star .ensures))
+      rw (is-star (entry-read (opened k)) (c .before .match .keys2) .1) (walk-star-star (tree k) (start k .args .walk .course) _ (c .star .ensures))
 
   -- along axes, from each node once
   way-of-requires : lts.Need-way-of-requires (claims t) (own t) star.Post
-  way-of-requires c κs = let k = c .before in (given k .grounds .each, asked k .entry)
+  way-of-requires c κs = let k = c .before in (opened k .given .grounds .each, opened k .asked .entry)
 
   enum-known-way : lts.Need-enum-known-way (claims t) (own t) star.Post
   enum-known-way c = search needs
@@ -89,7 +84,7 @@ module _ (t : ℕ) where
   below-requires c κs = search needs
 
   closure-requires : lts.Need-closure-requires (claims t) (own t) star.Post
-  closure-requires c κs = let g = given (c .before .before .before .before .before .before) in (g .grounds .roll-right, g .grounds .linked)
+  closure-requires c κs = let g = opened (c .before .before .before .before .before .before) .given in (g .grounds .roll-right, g .grounds .linked)
 
   returns-3 : lts.Need-returns-3 (claims t) (own t) star.Post
   unfolding reach
@@ -98,7 +93,7 @@ module _ (t : ℕ) where
       let told = every .before .before in
       let found = told .before .before in
       let k = found .before .before in
-      let g = given k .grounds .roll-right in
+      let g = opened k .given .grounds .roll-right in
       let leads = rw (told .way .given .1) at (found .way-of .ensures) in
       image-star (leads (tree k)) (star-of-steps (roll-in-order g) (roll-most g) (every .below .ensures) (c .closure .ensures))
 
@@ -107,9 +102,10 @@ module _ (t : ℕ) where
   enum-told c = search needs
 
   by-rounds-requires : lts.Need-by-rounds-requires (claims t) (own t) star.Post
-  by-rounds-requires c κs = let k = c .before .before .before .before in (omega (arith, start k .pre .0), (given k, asked k))
+  by-rounds-requires c κs = let k = c .before .before .before .before in (omega (arith, start k .pre .0), (opened k .given, opened k .asked))
 
   returns-4 : lts.Need-returns-4 (claims t) (own t) star.Post
+  unfolding reach
   returns-4 c = c .by-rounds .ensures
 
   pub meets : {M : Type 1} → lts.Closed (claims t) (own t) star.Post M

@@ -37,7 +37,7 @@ narrow-requires c κs =
     let (grounds, annotated) = s .pre .0 in
     let form = annotated .records .each (s .args .r) (s .pre .1 .0) .form in
     let own = read .record-at .ensures .filter in (
-      record { grounds = grounds; answer = λ l. absurd (omega (arith, c .before .count2 .ensures)) },
+      record { grounds = grounds; answer = λ l. absurd (omega (arith, c .count2 .ensures)) },
       record {
         entry = record { within = rw own (form .named); sort = rw own (form .filter) };
         nodes-only = λ k m. rw (← bounded .before .count .ensures) (bounded .below .ensures .exact k .0 m);
