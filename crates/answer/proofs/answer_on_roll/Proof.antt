@@ -1,4 +1,4 @@
--- `answer::answer_on_roll` meets its contract: what the checks refuse is refused with the room as it was, and any other query's answer is given.
+-- `answer_on_roll`: what the checks refuse is refused with the room as it was, and any other query's answer is given.
 -- Assumes nothing.
 use Prim.Native.Nat.{_≤_}
 use native.Mathlib.Omega.{arith}

@@ -1,4 +1,4 @@
--- `answer::give` meets its contract: the bytes of the set are copied into the room, and the set's members are counted. Assumes nothing.
+-- `give`: the bytes of the set are copied into the room, and the set's members are counted. Assumes nothing.
 use Prim.Native.Nat.{ℕ}
 use mathlib.Core.Path.{_≡_}
 use borrow.Author.Needs.{needs}

@@ -1,4 +1,4 @@
--- `answer::reached` meets its contract: the image of the one start under the table's last entry. Assumes nothing.
+-- `reached`: the image of the one start under the table's last entry. Assumes nothing.
 use native.Mathlib.Omega.{arith}
 use borrow.Author.Needs.{needs}
 use Rattle.roll.proofs.Deciding.{roll-most}

@@ -1,4 +1,4 @@
--- `curator::curators_answer` meets its contract: what the checks refuse is refused with the room as it was; any other query is answered through
+-- `curators_answer`: what the checks refuse is refused with the room as it was; any other query is answered through
 -- the rewritten one, and its records turned into positions. Assumes nothing.
 use Prim.Native.Nat.{_≤_}
 use native.Mathlib.Omega.{arith}

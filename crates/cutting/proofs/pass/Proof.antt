@@ -1,4 +1,4 @@
--- `pass` meets its contract. Assumes nothing.
+-- `pass`: a visible record is put behind those that stand in the room, and a hidden one leaves it as it is. Assumes nothing.
 use Prim.Native.Nat.{_+_, _*_, _≤_, _<_}
 use native.Mathlib.Omega.{arith}
 use mathlib.Core.Path.{refl, sym, subst}

@@ -1,4 +1,4 @@
--- `write_view` meets its contract. The loop's invariant: the view of the records passed stands in front of the room, and behind it the room
+-- `write_view`. The loop's invariant: the view of the records passed stands in front of the room, and behind it the room
 -- is as before. The measure is the number of records that are left. Assumes nothing.
 use Prim.Native.Nat.{_-_, _*_, _≤_}
 use native.Mathlib.Omega.{arith}

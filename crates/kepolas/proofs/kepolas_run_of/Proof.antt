@@ -1,4 +1,4 @@
--- `kepolas::kepolas_run_of` meets its contract: an empty part is told as 0, 0, any other from the record's first byte on. Assumes nothing.
+-- `kepolas_run_of`: an empty part is told as 0, 0, any other from the record's first byte on. Assumes nothing.
 use native.Mathlib.Omega.{arith}
 use borrow.Author.Needs.{needs}
 use Rattle.kepolas.proofs.Parts.{full-place, empty-place}

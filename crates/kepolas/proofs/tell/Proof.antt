@@ -1,4 +1,4 @@
--- `kepolas::tell` meets its contract: in each case the two numbers say what the reply says. Assumes nothing.
+-- `tell`: in each case the two numbers say what the reply says. Assumes nothing.
 use Prim.Native.Nat.{ℕ}
 use mathlib.Core.Path.{sym, ap, _∙_}
 use borrow.Author.Needs.{needs}

@@ -1,4 +1,4 @@
--- `links::link` meets its contract. The loop's invariant: the links are right for the pairs of siblings whose second has been
+-- `link`. The loop's invariant: the links are right for the pairs of siblings whose second has been
 -- passed. The measure is the number of records that are left. Assumes nothing.
 use Prim.Native.Nat.{_-_, _≤_, _<_}
 use native.Mathlib.Omega.{arith}

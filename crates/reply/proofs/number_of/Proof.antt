@@ -1,4 +1,4 @@
--- `reply::number_of` meets its contract: the number of each case is the one that the definition lists. Assumes nothing.
+-- `number_of`: the number of each case is the one that the definition lists. Assumes nothing.
 use mathlib.Core.Path.{sym, ap}
 use borrow.Author.Needs.{needs}
 use Rattle.reply.specs.Reply.{number}

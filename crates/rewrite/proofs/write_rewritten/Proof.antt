@@ -1,4 +1,4 @@
--- `rewrite::write_rewritten` meets its contract. Assumes nothing.
+-- `write_rewritten`: the filter table is copied to the front, and what is written behind it makes the rewritten table. Assumes nothing.
 use native.Mathlib.Omega.{arith}
 use Rattle.query.proofs.Tables.{entries-length}
 use Rattle.rewrite.proofs.Made.{writer-given, made, made-told, short-count}

@@ -1,4 +1,4 @@
--- `tree::is_label` meets its contract: its two tests are the two bounds. Assumes nothing.
+-- `is_label`: its two tests are the two bounds. Assumes nothing.
 use native.Mathlib.Omega.{arith}
 use lib.Dec.{leb→le, le→leb}
 use Rattle.tree.proofs.is_label.Statement.{statement}

@@ -1,4 +1,4 @@
--- `visible_nodes` meets its contract: links, answers and index are what the pass over the nodes rests on. Assumes nothing.
+-- `visible_nodes`: links, answers and index are what the pass over the nodes rests on. Assumes nothing.
 use native.Mathlib.Nat.{le-trans}
 use borrow.Author.Needs.{needs}
 use Rattle.visible.proofs.Indexing.{annotation-labelled, records-most}

@@ -1,4 +1,4 @@
--- `curator::place::positions_of` meets its contract: after i records, those of them that are members stand at the positions counted so far.
+-- `positions_of`: after i records, those of them that are members stand at the positions counted so far.
 -- Assumes nothing.
 use Prim.Native.Nat.{_≤_, _-_}
 use native.Mathlib.Omega.{arith}

@@ -1,4 +1,4 @@
--- `parent_place` meets its contract. Assumes nothing.
+-- `parent_place`: the root has none, and any other parent is a record before its child, whose place is known. Assumes nothing.
 use Prim.Native.Nat.{_<_}
 use native.Mathlib.Omega.{arith}
 use borrow.Author.Needs.{needs}

@@ -1,4 +1,4 @@
--- `read_all` meets its contract: what was read fits. The measure is the room that is left, since each turn but the last reads some bytes.
+-- `read_all`: what was read fits. The measure is the room that is left, since each turn but the last reads some bytes.
 -- Assumes nothing.
 use Prim.Native.Nat.{_-_, _≤_}
 use mathlib.Core.Path.{_≡_, _∙_}

@@ -1,4 +1,4 @@
--- `answer_line` meets its contract. Assumes nothing.
+-- `answer_line`: a text that is refused gives the refusal's line, any other the line of the curator's answer to its table. Assumes nothing.
 use native.Mathlib.Omega.{arith}
 use mathlib.Core.Path.{sym}
 use lib.Seq.{length-take-le}

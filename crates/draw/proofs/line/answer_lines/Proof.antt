@@ -1,4 +1,4 @@
--- `answer_lines` meets its contract: what was read so far is answered. The measure is what is left of the input. Assumes nothing.
+-- `answer_lines`: what was read so far is answered. The measure is what is left of the input. Assumes nothing.
 use Prim.Native.Nat.{_-_}
 use native.Mathlib.Omega.{arith}
 use lib.ListN.{length}

@@ -1,4 +1,4 @@
--- `keep` meets its contract: `kept` bytes are moved. The measure is how many bytes more may be. Assumes nothing.
+-- `keep`: `kept` bytes are moved. The measure is how many bytes more may be. Assumes nothing.
 use Prim.Native.Nat.{_-_}
 use native.Mathlib.Omega.{arith}
 use borrow.Author.Needs.{needs}

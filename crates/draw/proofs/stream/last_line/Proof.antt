@@ -1,4 +1,4 @@
--- `last_line` meets its contract. Assumes nothing.
+-- `last_line`: a line feed behind what was kept ends the last line. Assumes nothing.
 use native.Mathlib.Omega.{arith}
 use lib.ListN.{length-set}
 use borrow.Author.Needs.{needs}

@@ -1,4 +1,4 @@
--- `read_on` meets its contract. Assumes nothing.
+-- `read_on`: what was read stands behind what was kept, and what is kept of it fits. Assumes nothing.
 use native.Mathlib.Omega.{arith}
 use borrow.Author.Needs.{needs}
 use Rattle.io.proofs.Counting.{front}

@@ -1,4 +1,4 @@
--- `send_lines` meets its contract: it goes on until no line ends behind what is answered. The measure is what is left of the input.
+-- `send_lines`: it goes on until no line ends behind what is answered. The measure is what is left of the input.
 -- Assumes nothing.
 use Prim.Native.Nat.{_-_, _≤_}
 use mathlib.Core.Path.{_≡_}

@@ -1,4 +1,4 @@
--- `unreadable` meets its contract. Assumes nothing.
+-- `unreadable`: the line that is written is the front of the buffer. Assumes nothing.
 use native.Mathlib.Omega.{arith}
 use borrow.Author.Needs.{needs}
 use Rattle.io.proofs.Counting.{front}

@@ -1,4 +1,4 @@
--- `evaluator::course::axis_of` meets its contract: of the four kinds, 5 is the one that is left. Assumes nothing.
+-- `axis_of`: of the four kinds, 5 is the one that is left. Assumes nothing.
 use borrow.Author.Needs.{needs}
 use native.Mathlib.Omega.{arith}
 use mathlib.Core.Path.{_≡_}

@@ -1,4 +1,4 @@
--- `evaluator::course::way` meets its contract: an axis leads where its path does, and turned round where its path turned round does.
+-- `way`: an axis leads where its path does, and turned round where its path turned round does.
 -- Assumes nothing.
 use mathlib.Core.Path.{sym, _∙_}
 use borrow.Author.Needs.{needs}

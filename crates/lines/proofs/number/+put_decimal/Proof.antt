@@ -1,4 +1,4 @@
--- `put_decimal` meets its contract: by its own call the digits of the number's tenth are written, and one more stands behind them. The
+-- `put_decimal`: by its own call the digits of the number's tenth are written, and one more stands behind them. The
 -- measure is the number. Assumes nothing.
 use Prim.Native.Nat.{ℕ, _+_, _/_, _%_, _≤_, _<_}
 use native.Mathlib.Omega.{arith}

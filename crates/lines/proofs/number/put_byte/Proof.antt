@@ -1,4 +1,4 @@
--- `put_byte` meets its contract. Assumes nothing.
+-- `put_byte`: the byte is put where there is room for it. Assumes nothing.
 use borrow.Author.Needs.{needs}
 use Rattle.lines.proofs.Putting.{put-one}
 use Rattle.lines.proofs.number.put_byte.Statement.{statement}

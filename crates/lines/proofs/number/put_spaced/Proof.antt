@@ -1,4 +1,4 @@
--- `put_spaced` meets its contract. Assumes nothing.
+-- `put_spaced`: the space, and the number behind it. Assumes nothing.
 use native.Mathlib.Omega.{arith}
 use borrow.Author.Needs.{needs}
 use Rattle.lines.proofs.Putting.{put-then}

@@ -1,4 +1,4 @@
--- `is_in` meets its contract: the bit of weight 2^(k mod 8) in byte k div 8. Assumes nothing.
+-- `is_in`: the bit of weight 2^(k mod 8) in byte k div 8. Assumes nothing.
 use mathlib.Core.Path.{refl}
 use borrow.Author.Needs.{needs}
 use Rattle.answer.specs.Bitmap.{bit}

@@ -1,4 +1,4 @@
--- `put_position` meets its contract. Assumes nothing.
+-- `put_position`: a position in the bitmap is put, and nothing for any other. Assumes nothing.
 use native.Mathlib.Omega.{arith}
 use borrow.Author.Needs.{needs}
 use Rattle.lines.proofs.Listing.{spaced-length, spaced-position, put-chosen, put-unchosen}

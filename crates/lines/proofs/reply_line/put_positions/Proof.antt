@@ -1,4 +1,4 @@
--- `put_positions` meets its contract: the positions before those that are left are written. The measure is how many are left.
+-- `put_positions`: the positions before those that are left are written. The measure is how many are left.
 -- Assumes nothing.
 use native.Mathlib.Omega.{arith}
 use Rattle.lines.proofs.Listing.{Listed, none-listed, listed-end, listed-length, list-one, all-listed}

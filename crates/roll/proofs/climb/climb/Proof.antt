@@ -1,4 +1,4 @@
--- `roll::climb::climb` meets its contract. The loop's invariant: the climb has come to a record behind the one wanted, on the way from its start
+-- `climb`. The loop's invariant: the climb has come to a record behind the one wanted, on the way from its start
 -- upwards. The measure is the record's number, since parents are smaller. Assumes nothing.
 use Prim.Native.Nat.{suc, _<_}
 use native.Mathlib.Omega.{arith}

@@ -1,4 +1,4 @@
--- `roll::node::count` meets its contract: a record is four bytes. Assumes nothing.
+-- `count`: a record is four bytes. Assumes nothing.
 use native.Mathlib.Omega.{arith}
 use denote.Ref.{now}
 use Rattle.roll.proofs.Records.{count-nodes}

@@ -1,4 +1,4 @@
--- `roll::node::label_at` meets its contract: it reads the byte in which the label of record i stands. Assumes nothing.
+-- `label_at`: it reads the byte in which the label of record i stands. Assumes nothing.
 use Prim.Native.Nat.{_+_, _*_, _<_}
 use native.Mathlib.Omega.{arith}
 use mathlib.Core.Path.{sym, _∙_}

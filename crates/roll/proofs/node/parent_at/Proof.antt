@@ -1,4 +1,4 @@
--- `roll::node::parent_at` meets its contract: it reads the two bytes in which the parent of record i stands. Assumes nothing.
+-- `parent_at`: it reads the two bytes in which the parent of record i stands. Assumes nothing.
 use Prim.Native.Nat.{_+_, _*_, _<_}
 use native.Mathlib.Omega.{arith}
 use mathlib.Core.Path.{sym, _∙_}

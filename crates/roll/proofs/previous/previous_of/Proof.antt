@@ -1,4 +1,4 @@
--- `roll::previous::previous_of` meets its contract: neither the root, nor a number that is not in the roll, nor the record right behind its parent
+-- `previous_of`: neither the root, nor a number that is not in the roll, nor the record right behind its parent
 -- has a previous sibling. Any other record has the one that the climb comes to. Assumes nothing.
 use Prim.Native.Nat.{_-_, _<_}
 use native.Mathlib.Omega.{arith}

@@ -1,4 +1,4 @@
--- `roll::run::end_of` meets its contract. The loop's invariant: the records passed behind k have their parents at k or behind it. The measure is
+-- `end_of`. The loop's invariant: the records passed behind k have their parents at k or behind it. The measure is
 -- the number of records that are left. Assumes nothing.
 use Prim.Native.Nat.{ℕ, _-_, _≤_, _<_}
 use native.Mathlib.Omega.{arith}

@@ -1,4 +1,4 @@
--- `roll::run::run_of` meets its contract: a refused roll and a number that is not in it give the empty part at the front of the table, any
+-- `run_of`: a refused roll and a number that is not in it give the empty part at the front of the table, any
 -- other the records from k up to where its run ends. Assumes nothing.
 use Prim.Native.Nat.{_*_, _≤_, _<_}
 use native.Mathlib.Omega.{arith}

@@ -1,4 +1,4 @@
--- `roll::scan::check_node` meets its contract: each test is one part of a record that is right, and a refusal is for the first part that is not.
+-- `check_node`: each test is one part of a record that is right, and a refusal is for the first part that is not.
 -- Assumes nothing.
 use mathlib.Core.Path.{_≡_, refl}
 use borrow.Author.Needs.{needs}

@@ -1,4 +1,4 @@
--- `roll::scan::check_roll` meets its contract. The loop's invariant: the records passed are right. The measure is the number of records that are
+-- `check_roll`. The loop's invariant: the records passed are right. The measure is the number of records that are
 -- left. Assumes nothing.
 use Prim.Native.Nat.{ℕ, _-_, _≤_, _<_}
 use native.Mathlib.Omega.{arith}

@@ -1,4 +1,4 @@
--- `roll::scan::label_fits` meets its contract: what is tested is the record's label. Assumes nothing.
+-- `label_fits`: what is tested is the record's label. Assumes nothing.
 use borrow.Author.Needs.{needs}
 use Rattle.roll.proofs.scan.label_fits.Statement.{statement}
 use Rattle.roll.proofs.scan.label_fits.Tie as tie

@@ -1,4 +1,4 @@
--- `roll::scan::length_fits` meets its contract: its tests are the three parts of a roll's length. Assumes nothing.
+-- `length_fits`: its tests are the three parts of a roll's length. Assumes nothing.
 use native.Mathlib.Omega.{arith}
 use lib.Dec.{leb→le, le→leb}
 use Rattle.roll.proofs.scan.length_fits.Statement.{statement}

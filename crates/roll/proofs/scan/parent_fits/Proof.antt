@@ -1,4 +1,4 @@
--- `roll::scan::parent_fits` meets its contract: the root's field is compared with its number, any other with the record before it or, where it is
+-- `parent_fits`: the root's field is compared with its number, any other with the record before it or, where it is
 -- smaller, with the parent of what the climb comes to. Assumes nothing.
 use Prim.Native.Nat.{_-_}
 use native.Mathlib.Omega.{arith}

@@ -1,4 +1,4 @@
--- `roll::scan::second_fits` meets its contract: the byte is one of the record's. Assumes nothing.
+-- `second_fits`: the byte is one of the record's. Assumes nothing.
 use Prim.Native.Nat.{_+_, _*_, _<_}
 use native.Mathlib.Omega.{arith}
 use denote.Ref.{now}

@@ -1,4 +1,4 @@
--- `sets::bitmap::bytes` meets its contract. Assumes nothing.
+-- `bytes`: byte i has the eight bits of the set from 8 i on. The loop's invariant: the bytes passed are made. Assumes nothing.
 use Prim.Native.Nat.{_≤_, _-_}
 use native.Mathlib.Omega.{arith}
 use mathlib.Core.Path.{refl}

@@ -1,4 +1,4 @@
--- `sets::build::add` meets its contract. The array is lent as a slice, since that tells its length. Assumes nothing.
+-- `add`. The array is lent as a slice, since that tells its length. Assumes nothing.
 use borrow.Author.Needs.{needs}
 use Rattle.sets.proofs.Words.{added}
 use Rattle.sets.proofs.build.add.Statement.{statement}

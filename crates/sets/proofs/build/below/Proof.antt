@@ -1,4 +1,4 @@
--- `sets::build::below` meets its contract. Assumes nothing.
+-- `below`: each word passed has its share of the numbers below n. Assumes nothing.
 use Prim.Native.Nat.{_≤_, _<_, _-_}
 use native.Mathlib.Nat.{lt-of-lt-of-le}
 use native.Mathlib.Omega.{arith}

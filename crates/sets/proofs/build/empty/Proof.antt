@@ -1,4 +1,4 @@
--- `sets::build::empty` meets its contract. Assumes nothing.
+-- `empty`: words of zeros have no member. Assumes nothing.
 use Rattle.sets.proofs.Words.{empty-set, zeros}
 use Rattle.sets.proofs.build.empty.Statement.{statement}
 use Rattle.sets.proofs.build.empty.Tie as tie

@@ -1,4 +1,4 @@
--- `sets::build::share` meets its contract. Assumes nothing.
+-- `share`: none of a word's numbers, the lowest ones, or all. Assumes nothing.
 use Prim.Native.Nat.{_-_}
 use native.Mathlib.Omega.{arith}
 use lib.Pow.{pow-pos}

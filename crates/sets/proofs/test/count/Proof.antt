@@ -1,4 +1,4 @@
--- `sets::test::count` meets its contract. Assumes nothing.
+-- `count`: the ones of the words passed are counted, at most 64 in each. Assumes nothing.
 use Prim.Native.Nat.{_≤_, _-_, _*_}
 use native.Mathlib.Omega.{arith}
 use mathlib.Core.Path.{_≡_, ap, _∙_}

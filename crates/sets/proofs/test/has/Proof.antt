@@ -1,4 +1,4 @@
--- `sets::test::has` meets its contract. Assumes nothing.
+-- `has`: the digit of the number in its word is tested. Assumes nothing.
 use mathlib.Core.Logic.{Iff·trans}
 use borrow.Author.Needs.{needs}
 use Rattle.tree.proofs.Tests.{equal-test}

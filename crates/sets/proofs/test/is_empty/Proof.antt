@@ -1,4 +1,4 @@
--- `sets::test::is_empty` meets its contract. Assumes nothing.
+-- `is_empty`: the words passed, or-ed together, are 0 exactly if each of them is. Assumes nothing.
 use Prim.Native.Nat.{ℕ, _≤_, _<_, _-_}
 use native.Mathlib.Omega.{arith}
 use mathlib.Core.Path.{_≡_, refl}

@@ -1,4 +1,4 @@
--- `steps::along::add_word` meets its contract. The loop's invariant: what is added, with what the rest of the word leads to, is what
+-- `add_word`. The loop's invariant: what is added, with what the rest of the word leads to, is what
 -- the whole word leads to. The measure is the rest. Assumes nothing.
 use Prim.Native.Nat.{_+_, _*_, _<_}
 use native.Mathlib.Omega.{arith}

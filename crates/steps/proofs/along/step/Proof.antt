@@ -1,4 +1,4 @@
--- `steps::along::step` meets its contract. The loop's invariant: the set holds what the members in the words passed lead to. The
+-- `step`. The loop's invariant: the set holds what the members in the words passed lead to. The
 -- measure is the number of words that are left. Assumes nothing.
 use Prim.Native.Nat.{_-_, _*_, _≤_}
 use native.Mathlib.Omega.{arith}

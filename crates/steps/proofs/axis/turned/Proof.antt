@@ -1,4 +1,4 @@
--- `steps::axis::turned` meets its contract: each axis says of i and j what its answer says of j and i. Assumes nothing.
+-- `turned`: each axis says of i and j what its answer says of j and i. Assumes nothing.
 use Prim.Native.Nat.{ℕ}
 use mathlib.Core.Path.{_≡_}
 use mathlib.Core.Logic.{_↔_, Iff·rfl}

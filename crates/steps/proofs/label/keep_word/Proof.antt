@@ -1,4 +1,4 @@
--- `steps::label::keep_word` meets its contract. The loop's invariant: the digits kept, with those of the rest that have the label, are
+-- `keep_word`. The loop's invariant: the digits kept, with those of the rest that have the label, are
 -- those of the word that have it. The measure is the rest. Assumes nothing.
 use Prim.Native.Nat.{_+_, _*_, _<_}
 use native.Mathlib.Omega.{arith}

@@ -1,4 +1,4 @@
--- `steps::label::labelled` meets its contract. The loop's invariant: the words passed have the members with the label, and the others
+-- `labelled`. The loop's invariant: the words passed have the members with the label, and the others
 -- stand as before. The measure is the number of words that are left. Assumes nothing.
 use Prim.Native.Nat.{_-_, _≤_}
 use native.Mathlib.Omega.{arith}

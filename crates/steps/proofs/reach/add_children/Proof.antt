@@ -1,4 +1,4 @@
--- `steps::reach::add_children` meets its contract. The loop's invariant: the children below j are added, and j is the next one, or
+-- `add_children`. The loop's invariant: the children below j are added, and j is the next one, or
 -- behind all records. The measure is how far j is from 65,536, since each link leads on. Assumes nothing.
 use Prim.Native.Nat.{suc, _-_, _<_, zero-le}
 use native.Mathlib.Omega.{arith}

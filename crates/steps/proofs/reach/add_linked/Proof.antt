@@ -1,4 +1,4 @@
--- `steps::reach::add_linked` meets its contract: a link at 4,096 or more leads nowhere. Assumes nothing.
+-- `add_linked`: a link at 4,096 or more leads nowhere. Assumes nothing.
 use native.Mathlib.Omega.{arith}
 use mathlib.Core.Path.{sym, _∙_}
 use borrow.Author.Needs.{needs}

@@ -1,4 +1,4 @@
--- `steps::reach::add_parent` meets its contract: a record behind the root has one parent, and the root has none. Assumes nothing.
+-- `add_parent`: a record behind the root has one parent, and the root has none. Assumes nothing.
 use native.Mathlib.Omega.{arith}
 use mathlib.Core.Path.{sym}
 use borrow.Author.Needs.{needs}

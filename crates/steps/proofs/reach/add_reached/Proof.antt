@@ -1,4 +1,4 @@
--- `steps::reach::add_reached` meets its contract: in each arm, what the callee adds is what the axis of the arm leads to. Assumes nothing.
+-- `add_reached`: in each arm, what the callee adds is what the axis of the arm leads to. Assumes nothing.
 use mathlib.Core.Path.{refl}
 use borrow.Author.Needs.{needs}
 use denote.Ref.{now}

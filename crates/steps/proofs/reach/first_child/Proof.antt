@@ -1,4 +1,4 @@
--- `steps::reach::first_child` meets its contract: a node with a child has its first child right behind it. Assumes nothing.
+-- `first_child`: a node with a child has its first child right behind it. Assumes nothing.
 use Prim.Native.Nat.{_+_, _<_}
 use native.Mathlib.Omega.{arith}
 use mathlib.Core.Path.{_≡_}

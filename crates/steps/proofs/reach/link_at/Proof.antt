@@ -1,4 +1,4 @@
--- `steps::reach::link_at` meets its contract: below the length, what is read does not hang on what stands past the end. Assumes nothing.
+-- `link_at`: below the length, what is read does not hang on what stands past the end. Assumes nothing.
 use Prim.Native.Nat.{ℕ}
 use native.Mathlib.Omega.{arith}
 use mathlib.Core.Path.{_≡_, sym, ap, _∙_}

@@ -1,4 +1,4 @@
--- `visible::answers::answer` meets its contract. The loop's invariant: the records passed are answered. The measure is the number of
+-- `answer`. The loop's invariant: the records passed are answered. The measure is the number of
 -- records that are left. Assumes nothing.
 use Prim.Native.Nat.{_-_, _≤_}
 use native.Mathlib.Omega.{arith}

@@ -1,4 +1,5 @@
--- `visible::answers::answer_record` meets its contract. Assumes nothing.
+-- `answer_record`: the filter of a record is asked once, by the first record that names it, and stored at that record's place. Assumes
+-- nothing.
 use native.Mathlib.Omega.{arith}
 use borrow.Author.Needs.{needs}
 use Rattle.roll.proofs.Deciding.{roll-most}

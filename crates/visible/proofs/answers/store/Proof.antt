@@ -1,4 +1,4 @@
--- `visible::answers::store` meets its contract. The loop's invariant: the words passed stand at the place of record r. The measure is the
+-- `store`. The loop's invariant: the words passed stand at the place of record r. The measure is the
 -- number of words that are left. Assumes nothing.
 use Prim.Native.Nat.{_-_, _≤_}
 use native.Mathlib.Omega.{arith}

@@ -1,4 +1,4 @@
--- `visible::index::first_named` meets its contract. The loop's invariant: no record passed names the filter. The measure is the number of
+-- `first_named`. The loop's invariant: no record passed names the filter. The measure is the number of
 -- records that are left. Assumes nothing.
 use Prim.Native.Nat.{ℕ, _-_, _≤_, _<_}
 use native.Mathlib.Nat.{le-refl}

@@ -1,4 +1,4 @@
--- `visible::index::index_of` meets its contract. The loop's invariant: the records passed are in the index. The measure is the number of
+-- `index_of`. The loop's invariant: the records passed are in the index. The measure is the number of
 -- records that are left. Assumes nothing.
 use Prim.Native.Nat.{ℕ, _-_, _≤_}
 use native.Mathlib.Omega.{arith}

@@ -1,4 +1,4 @@
--- `visible::index::row_of` meets its contract. Assumes nothing.
+-- `row_of`: the place of a pair of labels is inside the index. Assumes nothing.
 use native.Mathlib.Omega.{arith}
 use borrow.Author.Needs.{needs}
 use Rattle.visible.proofs.index.row_of.Statement.{statement}

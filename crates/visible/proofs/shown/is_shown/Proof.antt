@@ -1,4 +1,4 @@
--- `visible::shown::is_shown` meets its contract. Assumes nothing.
+-- `is_shown`: the root is shown; a node whose pair has a row as that record's answer says, any other as its parent is. Assumes nothing.
 use Prim.Native.Nat.{suc, _-_, _≤_, _<_}
 use native.Mathlib.Omega.{arith}
 use mathlib.Core.Path.{_≡_, refl, sym, _∙_}

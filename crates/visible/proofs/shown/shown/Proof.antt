@@ -1,4 +1,4 @@
--- `visible::shown::shown` meets its contract. The loop's invariant: of the nodes passed, the set has those that are shown. The measure is
+-- `shown`. The loop's invariant: of the nodes passed, the set has those that are shown. The measure is
 -- the number of nodes that are left. Assumes nothing.
 use Prim.Native.Nat.{_-_, _≤_}
 use native.Mathlib.Omega.{arith}
