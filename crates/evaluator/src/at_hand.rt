@@ -1,12 +1,16 @@
 // Filters that are told at once, so that all nodes can be asked for what a step costs.
-use tables::LEADS;
-use tables::NOT;
-use tables::STAY;
 use tables::entry_at;
 use tables::kind_at;
 ghost use mathlib.Core.Path.{_≡_};
 ghost use lib.Dec.{T};
 ghost use Rattle.query.specs.Table.{entries, entryAt};
+
+// "Stay if the filter holds", "left leads somewhere" and "not".
+const STAY: usize = tables::STAY as usize;
+
+const LEADS: usize = tables::LEADS as usize;
+
+const NOT: usize = tables::NOT as usize;
 
 // Whether a filter is told at once: it is the known one, asks for a label, or is "true" or "false".
 fn is_plain(table: &[u8], known: usize, f: usize) -> bool {
@@ -14,10 +18,10 @@ fn is_plain(table: &[u8], known: usize, f: usize) -> bool {
         return true;
     }
     let kind = kind_at(table, f);
-    if kind == LEADS as usize {
+    if kind == LEADS {
         return false;
     }
-    kind < NOT as usize
+    kind < NOT
 }
 
 // Whether the filter that entry e stays by is told at once, or says that such a one does not hold.
@@ -27,7 +31,7 @@ fn at_hand(table: &[u8], known: usize, e: usize) -> bool {
         return true;
     }
     let entry = entry_at(table, asked);
-    if entry.kind != NOT as usize {
+    if entry.kind != NOT {
         return false;
     }
     is_plain(table, known, entry.left)
@@ -37,7 +41,7 @@ fn at_hand(table: &[u8], known: usize, e: usize) -> bool {
 pub(crate) fn stays_at_hand(table: &[u8], known: usize, e: usize) -> bool
     ensures { λ r. ⌜ (T r → entryAt (entries (now (table .entry))) e .kind ≡ 6) ⌝ }
 {
-    if kind_at(table, e) != STAY as usize {
+    if kind_at(table, e) != STAY {
         return false;
     }
     at_hand(table, known, e)

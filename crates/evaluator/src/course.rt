@@ -1,9 +1,6 @@
 // The three courses on which a path is walked.
 use steps::Axis;
 use steps::turned;
-use tables::CHILD;
-use tables::NEXT;
-use tables::PARENT;
 ghost use mathlib.Core.Path.{_≡_};
 ghost use mathlib.Core.Logic.{_↔_};
 ghost use Prim.Native.Nat.{ℕ, _≤_};
@@ -11,6 +8,13 @@ ghost use Rattle.tree.specs.Tree.{Tree};
 ghost use Rattle.query.specs.Meaning.{reach};
 ghost use Rattle.steps.specs.Axis.{Along};
 ghost use Rattle.evaluator.specs.Course.{facing, pathOf, backwards, freely, firstOf, OfKind};
+
+// The kinds that are steps along an axis; the fourth, the previous sibling, is the one that is left.
+const CHILD: usize = tables::CHILD as usize;
+
+const PARENT: usize = tables::PARENT as usize;
+
+const NEXT: usize = tables::NEXT as usize;
 
 // Forwards; backwards, with the axes turned round and the steps in the other order; or forwards with every filter taken to hold.
 pub enum Course {
@@ -58,8 +62,7 @@ pub(crate) fn axis_of(kind: usize) -> Axis
     requires { ⌜ (2 ≤ kind) × (kind ≤ 5) ⌝ }
     ensures { λ r. ⌜ OfKind kind r ⌝ }
 {
-    let byte = kind as u8;
-    match byte {
+    match kind {
         CHILD => Axis::Child,
         PARENT => Axis::Parent,
         NEXT => Axis::Next,
