@@ -1,5 +1,5 @@
--- What the code reads of an entry is what stands there, what it writes are an entry's bytes, and the number of a sort says the sort. Assumes
--- nothing.
+-- What the code reads of an entry is what stands there, what it writes are an entry's bytes, and the number of a sort says the sort.
+-- Assumes nothing.
 use Prim.Native.Nat.{ℕ, _+_, _*_, _/_, _≤_, _<_}
 use native.Mathlib.Numerals.{towards-suc}
 use native.Mathlib.Omega.{arith}

@@ -29,7 +29,8 @@ was-read : {e : table.Entry} {own : Entry} → Fields e own → given own ≡ e
 was-read f = λ i. fields (f .kind i) (f .label i) (f .left i) (f .right i)
 
 -- what is chosen for a kind that is no axis
-pub others : (axes : ℕ) (own : table.Entry) (kind : ℕ) → ¬ (kind ≡ 2) → ¬ (kind ≡ 3) → ¬ (kind ≡ 4) → ¬ (kind ≡ 5) → own ≡ chosen axes own kind
+pub others : (axes : ℕ) (own : table.Entry) (kind : ℕ) → ¬ (kind ≡ 2) → ¬ (kind ≡ 3) → ¬ (kind ≡ 4) → ¬ (kind ≡ 5)
+    → own ≡ chosen axes own kind
 unfolding chosen
 others axes own zero a b c d = refl
 others axes own (suc zero) a b c d = refl

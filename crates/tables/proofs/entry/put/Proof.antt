@@ -13,7 +13,8 @@ use Rattle.tables.proofs.entry.put.Tie as tie
 first-length : (c : tie.After-put-two-bytes) → length (c .put-two-bytes .last .0) ≡ length (c .before .before .before .args .table .now)
 first-length c = ap length (c .put-two-bytes .ensures) ∙ simp (length-sets, length-set)
 
-second-length : (c : tie.After-put-two-bytes2) → length (c .put-two-bytes2 .last .0) ≡ length (c .before .before .before .before .put-two-bytes .last .0)
+second-length : (c : tie.After-put-two-bytes2)
+    → length (c .put-two-bytes2 .last .0) ≡ length (c .before .before .before .before .put-two-bytes .last .0)
 second-length c = ap length (c .put-two-bytes2 .ensures) ∙ simp length-sets
 
 mul-at : tie.Need-mul-at
@@ -50,7 +51,8 @@ returns c =
     let second = c .before .before in
     let first = second .before .before .before .before in
     let a = first .before .before .before .args in
-    stored (a .table .now) (a .i) (a .kind) (a .label) (a .left) (a .right) (first .put-two-bytes .ensures) (second .put-two-bytes2 .ensures)
+    stored (a .table .now) (a .i) (a .kind) (a .label) (a .left) (a .right) (first .put-two-bytes .ensures)
+    (second .put-two-bytes2 .ensures)
 
 pub put-spec : {M : Type 1} → statement M
 put-spec =

@@ -3,7 +3,7 @@ use Prim.Native.Nat.{ℕ, _+_}
 use mathlib.Core.Path.{ap, ap₂, _∙_}
 use mathlib.Core.List.{[], _∷_}
 use Rattle.query.specs.Kind.{rowOf}
-use Rattle.tables.specs.Shape.{leftOf, rightOf}
+use Rattle.tables.specs.Shape.{Shaped}
 use Rattle.written.specs.Written.{moved, renumber}
 use Rattle.tables.specs.Laid.{laid, fields}
 use borrow.Author.Needs.{needs}
@@ -37,11 +37,12 @@ returns c =
     let shape = first .before in
     let kind = shape .before in
     let a = kind .before .before .args in
+    let shaped : Shaped (rowOf (a .kind)) (shape .shape-of .result) = rw (kind .wide .ensures .0) at (shape .shape-of .ensures) in
     let to : ℕ → ℕ = λ x. x + a .distance in
     at-put .put .ensures
     ∙ ap₂ (λ (l r : ℕ). laid (a .out .now) (a .at) (fields (a .kind) (a .label) l r ∷ []))
-    (first .raised .ensures ∙ ap (λ (sort : ℕ). moved to sort (a .left)) (shape .shape-of .ensures .left ∙ ap (λ (k : ℕ). leftOf (rowOf k)) (kind .wide .ensures .0)))
-    (second .raised2 .ensures ∙ ap (λ (sort : ℕ). moved to sort (a .right)) (shape .shape-of .ensures .right ∙ ap (λ (k : ℕ). rightOf (rowOf k)) (kind .wide .ensures .0)))
+    (first .raised .ensures ∙ ap (λ (sort : ℕ). moved to sort (a .left)) (shaped .left))
+    (second .raised2 .ensures ∙ ap (λ (sort : ℕ). moved to sort (a .right)) (shaped .right))
 
 pub put-raised-spec : {M : Type 1} → statement M
 put-raised-spec =

@@ -86,7 +86,8 @@ returns-2 c =
     let a = start read .args in
     at-put .put-raised .ensures
     ∙ as-entry (a .out .now) (a .at)
-    (itself-stands (read .entry-at .ensures) (a .axes) (a .distance) (asked .stand-in .result) (asked .stand-in .ensures) (matched .match .keys2))
+    (itself-stands (read .entry-at .ensures) (a .axes) (a .distance) (asked .stand-in .result) (asked .stand-in .ensures)
+    (matched .match .keys2))
 
 pub put-view-spec : {M : Type 1} → statement M
 put-view-spec =
