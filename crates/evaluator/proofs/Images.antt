@@ -1,6 +1,6 @@
 -- The image of a set under each relation that paths are made of. Assumes nothing.
 use Prim.Native.Nat.{ℕ, _<_}
-use mathlib.Core.Path.{_≡_, refl, sym, subst}
+use mathlib.Core.Path.{_≡_, refl, subst}
 use mathlib.Core.Logic.{_↔_, _⊎_, inl, inr, ⊎-elim, ⊎-map}
 use mathlib.Core.List.{List}
 use Rattle.query.specs.Meaning.{Star, stop, step}
@@ -66,9 +66,7 @@ image-star-star a = image-same (λ i j. (λ s. step s stop, star-flat)) a
 abbrev pub Stays : ℕ → (ℕ → ℕ → Type 0) → Type 0
 Stays n R = (i j : ℕ) → i < n → R i j → j < n
 
-pub then-stays : {n : ℕ} {R Q : ℕ → ℕ → Type 0} → Stays n R → Stays n Q → Stays n (λ i j. (k : ℕ) × R i k × Q k j)
-then-stays first second i j l (k, r, q) = second k j (first i k l r) q
-
+-- and so does its star
 pub star-stays : {n : ℕ} {R : ℕ → ℕ → Type 0} → Stays n R → Stays n (Star R)
 star-stays {n} stays i j l s = star-keeps (λ k. k < n) stays l s
 

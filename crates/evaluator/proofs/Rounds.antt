@@ -1,10 +1,9 @@
 -- A star goes on from what is new in the last round, and ends when nothing is. Assumes nothing.
 use Prim.Native.Nat.{ℕ, _≤_, _<_}
 use native.Mathlib.Nat.{lt-of-lt-of-le}
-use mathlib.Core.Path.{_≡_}
-use mathlib.Core.Logic.{_↔_, _⊎_, inl, inr, ⊎-elim}
+use mathlib.Core.Logic.{_⊎_, inl, inr, ⊎-elim}
 use mathlib.Core.List.{List}
-use Rattle.query.specs.Meaning.{Star, stop, step}
+use Rattle.query.specs.Meaning.{Star, stop}
 use Rattle.query.proofs.Closure.{star-keeps, star-more}
 use Rattle.sets.specs.Sets.{In, Holds, Image, Inside}
 use Rattle.sets.proofs.Size.{dec-in, sizeOf, grown as size-grown}

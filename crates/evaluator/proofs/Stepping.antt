@@ -1,14 +1,13 @@
 -- Stars along axes: where the sources are all nodes, a star of steps from sources is the star of the path. Assumes nothing.
 use Prim.Native.Nat.{ℕ, _≤_, _<_}
 use native.Mathlib.Nat.{lt-of-lt-of-le}
-use mathlib.Core.Path.{_≡_}
 use mathlib.Core.Logic.{_↔_, _⊎_, ⊎-map, Iff·trans}
 use mathlib.Core.List.{List}
 use lib.ListN.{length}
 use Rattle.tree.specs.Tree.{Tree, InOrder}
 use Rattle.query.specs.Syntax.{Path, either}
 use Rattle.query.specs.Meaning.{Star, reach}
-use Rattle.sets.specs.Sets.{In, Holds, Image}
+use Rattle.sets.specs.Sets.{Holds, Image}
 use Rattle.steps.specs.Axis.{AlongAny}
 use Rattle.steps.specs.Star.{StepFrom}
 use Rattle.steps.specs.declared.axis.Axes.{Axes}

@@ -2,13 +2,11 @@
 -- Assumes nothing.
 use Prim.Native.Nat.{ℕ, _-_}
 use native.Mathlib.Omega.{arith}
-use mathlib.Core.Path.{_≡_, sym, subst}
 use mathlib.Core.Logic.{inr}
 use borrow.Author.Needs.{needs}
 use borrow.Fn.Kinds.{In}
 use denote.Ref.{now}
 use lib.ListN.{length}
-use lib.Dec.{T}
 use Rattle.tree.proofs.Calls as calls
 use Rattle.roll.specs.Roll.{nodes}
 use Rattle.roll.proofs.Deciding.{roll-in-order, roll-most}

@@ -1,30 +1,21 @@
 -- `image`, as a member of the cycle of calls: an arm for each kind of path, whose operands are asked in their turn.
 -- Assumes nothing.
-use Prim.Native.Nat.{ℕ, _*_, _≤_, _<_}
+use Prim.Native.Nat.{ℕ, _≤_}
 use native.Mathlib.Nat.{lt-irrefl, lt-of-lt-of-le}
 use native.Mathlib.Omega.{arith}
-use mathlib.Core.Path.{_≡_, sym, subst, _∙_}
+use mathlib.Core.Path.{sym, subst, _∙_}
 use mathlib.Core.Logic.{Iff·symm, Iff·trans}
-use mathlib.Core.List.{List}
 use borrow.Author.Needs.{needs}
 use borrow.Fn.Kinds.{In}
 use denote.Ref.{now}
-use lib.ListN.{length}
 use lib.Dec.{T}
 use Rattle.tree.specs.Tree.{Tree}
 use Rattle.tree.proofs.Calls as calls
 use Rattle.roll.specs.Roll.{nodes}
-use Rattle.roll.proofs.Deciding.{roll-in-order}
-use Rattle.query.specs.Syntax.{Path}
-use Rattle.query.specs.Kind.{Sort, path, of}
-use Rattle.query.specs.Meaning.{reach}
-use Rattle.query.specs.Table.{entries, OperandField, pathAt}
+use Rattle.query.specs.Kind.{path, of}
+use Rattle.query.specs.Table.{entries}
 use Rattle.query.proofs.Standing.{path-kind}
-use Rattle.sets.specs.Sets.{Image, Inside}
-use Rattle.evaluator.specs.declared.course.Course.{Course}
-use Rattle.evaluator.specs.declared.course.Course.the-variants.{Forwards, Backwards, Freely}
-use Rattle.evaluator.specs.Course.{firstOf}
-use Rattle.evaluator.specs.Evaluator.{Knowing, Asked}
+use Rattle.evaluator.specs.Evaluator.{Asked}
 use Rattle.evaluator.proofs.Images.{image-empty, image-inside, image-same, image-then}
 use Rattle.evaluator.proofs.Operands.{none-behind, Opened, entry-read, path-stays, operand, operand-below, is-self, is-axis, is-stay, is-either, is-star, Parts, parts-of}
 use Rattle.evaluator.proofs.Walks.{walk-self, walk-free, walk-stay, walk-either, walk-star}

@@ -1,26 +1,21 @@
 -- `narrow`, as a member of the cycle of calls: an arm for each kind of filter, whose operands are asked in their turn.
 -- Assumes nothing.
-use Prim.Native.Nat.{ℕ, _*_, _<_}
+use Prim.Native.Nat.{ℕ}
 use native.Mathlib.Omega.{arith}
 use mathlib.Core.Path.{_≡_, sym, subst}
-use mathlib.Core.List.{List}
 use borrow.Author.Needs.{needs}
 use borrow.Fn.Kinds.{In}
 use denote.Ref.{now}
-use lib.ListN.{length}
 use lib.Dec.{T}
 use Rattle.tree.specs.Tree.{Tree}
 use Rattle.tree.proofs.Calls as calls
 use Rattle.roll.specs.Roll.{nodes}
-use Rattle.roll.proofs.Deciding.{roll-in-order}
-use Rattle.query.specs.Syntax.{Path}
-use Rattle.query.specs.Kind.{Sort, filter, of}
-use Rattle.query.specs.Meaning.{reach, holds}
-use Rattle.query.specs.Table.{entries, OperandField, pathAt, filterAt}
+use Rattle.query.specs.Kind.{filter, of}
+use Rattle.query.specs.Meaning.{holds}
+use Rattle.query.specs.Table.{entries, pathAt, filterAt}
 use Rattle.query.proofs.Standing.{filter-kind}
 use Rattle.query.proofs.Turn.{turn-right, free-reaches}
-use Rattle.sets.specs.Sets.{Inside}
-use Rattle.evaluator.specs.Evaluator.{Knowing, Asked}
+use Rattle.evaluator.specs.Evaluator.{Asked}
 use Rattle.evaluator.proofs.Images.{image-inside, narrowed-inside}
 use Rattle.evaluator.proofs.Filters.{narrow-empty, narrow-known, narrow-always, narrow-never, narrow-leads, narrow-not, narrow-and, narrow-or}
 use Rattle.evaluator.proofs.Operands.{Opened, entry-read, path-stays, operand-below, is-labelled, is-leads, is-always, is-never, is-not, is-and, is-or}

@@ -1,6 +1,6 @@
 -- `sources`, as a member of the cycle of calls: the filter holds nowhere in the set, or it is asked of all nodes.
 -- Assumes nothing.
-use Prim.Native.Nat.{ℕ, _*_, _<_}
+use Prim.Native.Nat.{ℕ}
 use native.Mathlib.Omega.{arith}
 use mathlib.Core.Path.{sym, subst}
 use mathlib.Core.Logic.{inl, inr}

@@ -1,7 +1,7 @@
 -- `star`, as a member of the cycle of calls: along axes each node is gone on from once, and rounds for any other path. Assumes nothing.
-use Prim.Native.Nat.{ℕ, _+_, _*_, _<_}
+use Prim.Native.Nat.{ℕ}
 use native.Mathlib.Omega.{arith}
-use mathlib.Core.Path.{_≡_, refl, sym, _∙_}
+use mathlib.Core.Path.{refl, sym, _∙_}
 use borrow.Author.Needs.{needs}
 use borrow.Fn.Kinds.{In}
 use denote.Ref.{now}
@@ -11,7 +11,7 @@ use Rattle.roll.specs.Roll.{nodes}
 use Rattle.roll.proofs.Deciding.{roll-in-order, roll-most}
 use Rattle.query.specs.Kind.{path}
 use Rattle.query.specs.Meaning.{reach}
-use Rattle.evaluator.specs.Evaluator.{Knowing, Asked}
+use Rattle.evaluator.specs.Evaluator.{Asked}
 use Rattle.evaluator.proofs.Images.{image-star}
 use Rattle.evaluator.proofs.Walks.{walk-star-star}
 use Rattle.evaluator.proofs.Operands.{Opened, entry-read, operand, is-star}

@@ -1,6 +1,6 @@
 -- `way_of`: one step leads along its axis, and a choice of two along the axes of either. The measure is the entry number. Assumes nothing.
-use Prim.Native.Nat.{ℕ, _<_}
-use mathlib.Core.Path.{_≡_, subst}
+use Prim.Native.Nat.{ℕ}
+use mathlib.Core.Path.{subst}
 use mathlib.Core.Logic.{Iff·trans}
 use borrow.Author.Needs.{needs}
 use borrow.Fn.Kinds.{In}

@@ -1,6 +1,6 @@
 -- `put_decimal`: by its own call the digits of the number's tenth are written, and one more stands behind them. The
 -- measure is the number. Assumes nothing.
-use Prim.Native.Nat.{ℕ, _+_, _/_, _%_, _≤_, _<_}
+use Prim.Native.Nat.{ℕ, _+_, _/_, _%_, _≤_}
 use native.Mathlib.Omega.{arith}
 use mathlib.Core.Path.{_≡_, _∙_}
 use lib.ListN.{length}
