@@ -1,16 +1,12 @@
 // Filters that are told at once, so that all nodes can be asked for what a step costs.
+use crate::kinds::LEADS;
+use crate::kinds::NOT;
+use crate::kinds::STAY;
 use tables::entry_at;
 use tables::kind_at;
 ghost use mathlib.Core.Path.{_≡_};
 ghost use lib.Dec.{T};
 ghost use Rattle.query.specs.Table.{entries, entryAt};
-
-// "Stay if the filter holds", "left leads somewhere" and "not".
-const STAY: usize = tables::STAY as usize;
-
-const LEADS: usize = tables::LEADS as usize;
-
-const NOT: usize = tables::NOT as usize;
 
 // Whether a filter is told at once: it is the known one, asks for a label, or is "true" or "false".
 fn is_plain(table: &[u8], known: usize, f: usize) -> bool {

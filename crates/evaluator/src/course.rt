@@ -1,4 +1,7 @@
 // The three courses on which a path is walked.
+use crate::kinds::CHILD;
+use crate::kinds::NEXT;
+use crate::kinds::PARENT;
 use steps::Axis;
 use steps::turned;
 ghost use mathlib.Core.Path.{_≡_};
@@ -8,13 +11,6 @@ ghost use Rattle.tree.specs.Tree.{Tree};
 ghost use Rattle.query.specs.Meaning.{reach};
 ghost use Rattle.steps.specs.Axis.{Along};
 ghost use Rattle.evaluator.specs.Course.{facing, pathOf, backwards, freely, firstOf, OfKind};
-
-// The kinds that are steps along an axis; the fourth, the previous sibling, is the one that is left.
-const CHILD: usize = tables::CHILD as usize;
-
-const PARENT: usize = tables::PARENT as usize;
-
-const NEXT: usize = tables::NEXT as usize;
 
 // Forwards; backwards, with the axes turned round and the steps in the other order; or forwards with every filter taken to hold.
 pub enum Course {

@@ -2,6 +2,7 @@
 // call each other, and the entry number falls. Of one filter, of number `known`, the nodes where it holds may be known beforehand: `held`.
 mod at_hand;
 mod course;
+mod kinds;
 mod ways;
 
 use at_hand::stays_at_hand;
@@ -11,6 +12,20 @@ use course::axis_of;
 use course::first_of;
 use course::is_free;
 use course::way;
+use kinds::ALWAYS;
+use kinds::AND;
+use kinds::CHILD;
+use kinds::EITHER;
+use kinds::LABELLED;
+use kinds::LEADS;
+use kinds::NEXT;
+use kinds::NOT;
+use kinds::OR;
+use kinds::PARENT;
+use kinds::PREVIOUS;
+use kinds::STAR;
+use kinds::STAY;
+use kinds::THEN;
 use roll::count;
 use sets::below;
 use sets::common;
@@ -58,15 +73,20 @@ pub fn image(
     let course = walk.course;
     let mut there = walk;
     match kind {
-        2 | 3 | 4 | 5 => step(roll, links, only(way(axis_of(kind), course)), from),
-        6 => {
+        CHILD | PARENT | NEXT | PREVIOUS => step(
+            roll,
+            links,
+            only(way(axis_of(kind), course)),
+            from,
+        ),
+        STAY => {
             if is_free(course) {
                 from
             } else {
                 narrow(roll, links, table, held, walk.known, left, from)
             }
         }
-        7 => {
+        THEN => {
             let first = first_of(course, left, right);
             let second = first_of(course, right, left);
             there.entry = first;
@@ -74,14 +94,14 @@ pub fn image(
             there.entry = second;
             image(roll, links, table, held, there, half)
         }
-        8 => {
+        EITHER => {
             there.entry = left;
             let one = image(roll, links, table, held, there, from);
             there.entry = right;
             let other = image(roll, links, table, held, there, from);
             union(one, other)
         }
-        9 => {
+        STAR => {
             there.entry = left;
             star(roll, links, table, held, there, from)
         }
@@ -105,8 +125,8 @@ fn star(
     let entry = entry_at(table, walk.entry);
     let kind = entry.kind;
     match kind {
-        7 => of_two(roll, links, table, held, walk, from),
-        9 => {
+        THEN => of_two(roll, links, table, held, walk, from),
+        STAR => {
             let mut there = walk;
             there.entry = entry.left;
             star(roll, links, table, held, there, from)
@@ -235,8 +255,8 @@ pub fn narrow(
     let left = entry.left;
     let right = entry.right;
     match kind {
-        16 => labelled(roll, entry.label, from),
-        17 => {
+        LABELLED => labelled(roll, entry.label, from),
+        LEADS => {
             let free = Walk {
                 entry: left,
                 course: Course::Freely,
@@ -251,13 +271,13 @@ pub fn narrow(
             let starts = image(roll, links, table, held, back, ends);
             common(from, starts)
         }
-        18 => from,
-        20 => difference(from, narrow(roll, links, table, held, known, left, from)),
-        21 => {
+        ALWAYS => from,
+        NOT => difference(from, narrow(roll, links, table, held, known, left, from)),
+        AND => {
             let first = narrow(roll, links, table, held, known, left, from);
             narrow(roll, links, table, held, known, right, first)
         }
-        22 => {
+        OR => {
             let first = narrow(roll, links, table, held, known, left, from);
             let rest = difference(from, first);
             union(first, narrow(roll, links, table, held, known, right, rest))

@@ -2,6 +2,11 @@
 use crate::course::Course;
 use crate::course::axis_of;
 use crate::course::way;
+use crate::kinds::CHILD;
+use crate::kinds::EITHER;
+use crate::kinds::NEXT;
+use crate::kinds::PARENT;
+use crate::kinds::PREVIOUS;
 use steps::Axes;
 use steps::both;
 use steps::only;
@@ -43,8 +48,8 @@ pub(crate) fn way_of(table: &[u8], e: usize, course: Course, deep: usize) -> Way
     let entry = entry_at(table, e);
     let kind = entry.kind;
     match kind {
-        2 | 3 | 4 | 5 => Way::Along(only(way(axis_of(kind), course))),
-        8 => {
+        CHILD | PARENT | NEXT | PREVIOUS => Way::Along(only(way(axis_of(kind), course))),
+        EITHER => {
             if deep == 0 {
                 return Way::Otherwise;
             }
