@@ -35,10 +35,12 @@ module _ {t : Tree} {p : Path} {A : ℕ → ℕ → Type 0} (still : Still p) (s
           → Star (From A sources) i j
       goes-on i all l s =
           star-keeps (λ k. (k < length t) × Star (From A sources) i k)
-          (λ a b (m, u) (k, held, led). let on : A a b = rw (still t a k held) led in (stays a b m on, star-more u (all a m (itself a k held), on)))
+          (λ a b (m, u) (k, held, led). let on : A a b = rw (still t a k held) led in
+          (stays a b m on, star-more u (all a m (itself a k held), on)))
           (l, stop) s .1
 
-      ends-there : {i j : ℕ} → ((k : ℕ) → In from k → ¬ reach t p k k) → In from i → Star (Then (reach t p) A) i j → Star (From A sources) i j
+      ends-there : {i j : ℕ} → ((k : ℕ) → In from k → ¬ reach t p k k) → In from i → Star (Then (reach t p) A) i j
+          → Star (From A sources) i j
       ends-there none x stop = stop
       ends-there {i} none x (step (k, held, led) more) = absurd (none i x (itself i k held))
 

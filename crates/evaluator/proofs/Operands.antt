@@ -47,7 +47,8 @@ unfolding OperandField
 operand-within w (l, h) = (l, record { within = omega (arith, w .within); sort = h })
 
 -- What a function of the evaluator has once it has read the entry that is asked of a set of nodes.
-pub record Opened (roll tab : Bytes) (links : List ℕ) (known : ℕ) (holding : List ℕ) (s : Sort) (e : ℕ) (from : List ℕ) (read : Entry) : Type 0 where
+pub record Opened (roll tab : Bytes) (links : List ℕ) (known : ℕ) (holding : List ℕ) (s : Sort) (e : ℕ) (from : List ℕ)
+    (read : Entry) : Type 0 where
   pub given : Knowing roll tab links known holding
   pub asked : Asked roll tab s e from
   pub fields : Fields (entryAt (entries tab) e) read
@@ -68,7 +69,8 @@ module _ {roll tab : Bytes} {links : List ℕ} {known : ℕ} {holding : List ℕ
       let (l, w) = operand-within (k .asked .entry) f in
       (omega arith, (k .given, record { entry = w; nodes-only = inside }))
 
-  pub operand-below : {o : Sort} {x t : ℕ} {set : List ℕ} → 4 * e ≡ t → OperandField (entries tab) e (of o) x → Inside (length (nodes roll)) set
+  pub operand-below : {o : Sort} {x t : ℕ} {set : List ℕ} → 4 * e ≡ t → OperandField (entries tab) e (of o) x
+      → Inside (length (nodes roll)) set
       → (4 * x < t) × (Knowing roll tab links known holding × Asked roll tab o x set)
   operand-below m f inside = let (l, more) = operand m f inside in (omega arith, more)
 

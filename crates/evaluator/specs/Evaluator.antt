@@ -52,7 +52,8 @@ Then R Q i j = (k : ℕ) × R i k × Q k j
 abbrev pub Still : Path → Type 0
 Still p = (t : Tree) (i j : ℕ) → reach t p i j → i ≡ j
 
--- the sources of a star that starts from a set: only nodes where the path leads to itself, and all of them, unless it does so nowhere in the set
+-- the sources of a star that starts from a set: only nodes where the path leads to itself, and all of them, unless it does so nowhere in
+-- the set
 pub record Sources (t : Tree) (p : Path) (from sources : List ℕ) : Type 0 where
   pub sound : (k : ℕ) → In sources k → reach t p k k
   pub whole : ((k : ℕ) → k < length t → reach t p k k → In sources k) ⊎ ((k : ℕ) → In from k → ¬ reach t p k k)

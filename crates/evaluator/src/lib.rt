@@ -184,8 +184,8 @@ fn of_two(
     by_rounds(roll, links, table, held, walk, from)
 }
 
-// Where a star may go on that starts from a set: at the nodes of the roll where the filter holds that the walk stays by, which are all asked
-// at once. If it holds nowhere in the set, the star ends there.
+// Where a star may go on that starts from a set: at the nodes where the filter holds that the walk stays by. All nodes are asked at once.
+// If it holds nowhere in the set, the star ends there.
 fn sources(
     roll: &[u8],
     links: &[u16; 8192],
@@ -206,7 +206,7 @@ fn sources(
     image(roll, links, table, held, walk, all)
 }
 
-// What a walk reaches in zero or more goes, whatever it is made of, by rounds: it goes on from what is new in the last one, until nothing is.
+// What a walk reaches in zero or more goes, whatever it is made of: each round goes on from what is new in the last one, until nothing is.
 fn by_rounds(
     roll: &[u8],
     links: &[u16; 8192],

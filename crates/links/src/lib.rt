@@ -1,5 +1,5 @@
-// The links of a roll: the next sibling of every record and, 4,096 places behind it, the previous one. One scan works out all of them, since
-// the climb gives both.
+// The links of a roll: the next sibling of every record and, 4,096 places behind it, the previous one. All are worked out once in one scan,
+// since the climb gives both.
 use roll::Sibling;
 use roll::count;
 use roll::previous_of;

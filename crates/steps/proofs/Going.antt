@@ -95,7 +95,8 @@ pub gone-more : {gone after : List ℕ} {i : ℕ} → ((k : ℕ) → In gone k �
 gone-more {i = i} still low out x = grown still (λ same. out (same i low x))
 
 -- and by those of a word, where one waited and none does any more
-pub gone-word : {R : ℕ → ℕ → Type 0} {set sources gone more after : List ℕ} {w : ℕ} → w < 64 → WordWith (Waits set sources gone) w → GoneOn R set gone more after
+pub gone-word : {R : ℕ → ℕ → Type 0} {set sources gone more after : List ℕ} {w : ℕ} → w < 64 → WordWith (Waits set sources gone) w
+    → GoneOn R set gone more after
     → ((k : ℕ) → k < 64 → ¬ Waits more sources after (64 * w + k)) → sizeOf gone < sizeOf after
 gone-word low (none e all) g left = absurd (omega arith)
 gone-word {after = after} {w} low (at k l low′ waits) g left =

@@ -35,7 +35,18 @@ abbrev own : ℕ → In 4 by-rounds-kinds.ps
 own = calls.given by-rounds-kinds.ps μ-by-rounds by-rounds.Pre
 
 abbrev claims : ℕ → lts.Claims
-claims t = (empty.Asked, empty.Learnt, is-empty.Asked, is-empty.Learnt, union.Asked, union.Learnt, calls.asked image-kinds.ps μ-image image.Pre t, image.Post, difference.Asked, difference.Learnt)
+claims t = (
+  empty.Asked,
+  empty.Learnt,
+  is-empty.Asked,
+  is-empty.Learnt,
+  union.Asked,
+  union.Learnt,
+  calls.asked image-kinds.ps μ-image image.Pre t,
+  image.Post,
+  difference.Asked,
+  difference.Learnt,
+)
 
 abbrev Inv-loop : lts.InvT-loop
 Inv-loop roll links table held walk all₀ fresh₀ all fresh =
@@ -50,7 +61,8 @@ module _ (t : ℕ) where
     abbrev start : lts.Start (claims t) (own t) by-rounds.Post Inv-loop μ-loop
     start = c .before .before .before .before
 
-    given : Knowing (now (start .args .roll)) (now (start .args .table)) (now (start .args .links)) (start .args .walk .known) (now (start .args .held))
+    given : Knowing (now (start .args .roll)) (now (start .args .table)) (now (start .args .links)) (start .args .walk .known)
+        (now (start .args .held))
     given = start .pre .1 .0
 
     asked : Asked (now (start .args .roll)) (now (start .args .table)) path (start .args .walk .entry) (start .args .from)

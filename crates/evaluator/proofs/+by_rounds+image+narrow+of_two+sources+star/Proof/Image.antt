@@ -42,7 +42,32 @@ abbrev own : ℕ → In 4 image-kinds.ps
 own = calls.given image-kinds.ps μ-image image.Pre
 
 abbrev claims : ℕ → lts.Claims
-claims t = (is-empty.Asked, is-empty.Learnt, entry-at.Asked, entry-at.Learnt, is-free.Asked, is-free.Learnt, calls.asked narrow-kinds.ps μ-narrow narrow.Pre t, narrow.Post, first-of.Asked, first-of.Learnt, calls.asked image-kinds.ps μ-image image.Pre t, image.Post, union.Asked, union.Learnt, calls.asked star-kinds.ps μ-star star.Pre t, star.Post, axis-of.Asked, axis-of.Learnt, way.Asked, way.Learnt, only.Asked, only.Learnt, step.Asked, step.Learnt)
+claims t = (
+  is-empty.Asked,
+  is-empty.Learnt,
+  entry-at.Asked,
+  entry-at.Learnt,
+  is-free.Asked,
+  is-free.Learnt,
+  calls.asked narrow-kinds.ps μ-narrow narrow.Pre t,
+  narrow.Post,
+  first-of.Asked,
+  first-of.Learnt,
+  calls.asked image-kinds.ps μ-image image.Pre t,
+  image.Post,
+  union.Asked,
+  union.Learnt,
+  calls.asked star-kinds.ps μ-star star.Pre t,
+  star.Post,
+  axis-of.Asked,
+  axis-of.Learnt,
+  way.Asked,
+  way.Learnt,
+  only.Asked,
+  only.Learnt,
+  step.Asked,
+  step.Learnt,
+)
 
 module _ (t : ℕ) where
   is-empty-requires : lts.Need-is-empty-requires (claims t) (own t) image.Post
@@ -77,7 +102,8 @@ module _ (t : ℕ) where
   only-requires c κs = search needs
 
   step-requires : lts.Need-step-requires (claims t) (own t) image.Post
-  step-requires c κs = let g = opened (c .before .before .before .before .before .before) .given in (g .grounds .roll-right, g .grounds .linked)
+  step-requires c κs = let g = opened (c .before .before .before .before .before .before) .given in
+      (g .grounds .roll-right, g .grounds .linked)
 
   returns-7 : lts.Need-returns-7 (claims t) (own t) image.Post
   returns-7 c =
@@ -102,7 +128,8 @@ module _ (t : ℕ) where
   narrow-requires : lts.Need-narrow-requires (claims t) (own t) image.Post
   narrow-requires c κs =
       let k = c .before .before .before in
-      operand-below (opened k) (start k .pre .0) (is-stay (entry-read (opened k)) (c .before .before .match .keys1) .0) (start k .pre .1 .1 .nodes-only)
+      operand-below (opened k) (start k .pre .0) (is-stay (entry-read (opened k)) (c .before .before .match .keys1) .0)
+      (start k .pre .1 .1 .nodes-only)
 
   returns-3 : lts.Need-returns-3 (claims t) (own t) image.Post
   returns-3 c =
@@ -122,10 +149,12 @@ module _ (t : ℕ) where
     abbrev whole : lts.After-entry-at (claims t) (own t) image.Post
     whole = found .before .before .before
 
-    parts : Parts (now (start whole .args .table)) (start whole .args .walk .course) (start whole .args .walk .entry) (found .before .first-of .result)
+    parts : Parts (now (start whole .args .table)) (start whole .args .walk .course) (start whole .args .walk .entry)
+        (found .before .first-of .result)
         (found .first-of2 .result)
     parts =
-        parts-of (entry-read (opened whole)) (found .before .before .match .keys2) (start whole .args .walk .course) (found .before .first-of .ensures)
+        parts-of (entry-read (opened whole)) (found .before .before .match .keys2) (start whole .args .walk .course)
+        (found .before .first-of .ensures)
         (found .first-of2 .ensures)
 
   image-requires : lts.Need-image-requires (claims t) (own t) image.Post
@@ -149,12 +178,14 @@ module _ (t : ℕ) where
   image-requires-3 : lts.Need-image-requires-3 (claims t) (own t) image.Post
   image-requires-3 c κs =
       let k = c .before in
-      operand-below (opened k) (start k .pre .0) (is-either (entry-read (opened k)) (c .match .keys3) .0 .0) (start k .pre .1 .1 .nodes-only)
+      operand-below (opened k) (start k .pre .0) (is-either (entry-read (opened k)) (c .match .keys3) .0 .0)
+      (start k .pre .1 .1 .nodes-only)
 
   image-requires-4 : lts.Need-image-requires-4 (claims t) (own t) image.Post
   image-requires-4 c κs =
       let k = c .before .before in
-      operand-below (opened k) (start k .pre .0) (is-either (entry-read (opened k)) (c .before .match .keys3) .0 .1) (start k .pre .1 .1 .nodes-only)
+      operand-below (opened k) (start k .pre .0) (is-either (entry-read (opened k)) (c .before .match .keys3) .0 .1)
+      (start k .pre .1 .1 .nodes-only)
 
   union-requires : lts.Need-union-requires (claims t) (own t) image.Post
   union-requires c κs = search needs
@@ -176,11 +207,13 @@ module _ (t : ℕ) where
   returns-6 : lts.Need-returns-6 (claims t) (own t) image.Post
   returns-6 c =
       let k = c .before .before in
-      rw (is-star (entry-read (opened k)) (c .before .match .keys4) .1) (walk-star (tree k) (start k .args .walk .course) _ (c .star .ensures))
+      rw (is-star (entry-read (opened k)) (c .before .match .keys4) .1)
+      (walk-star (tree k) (start k .args .walk .course) _ (c .star .ensures))
 
   -- self is the one path that is left, and none is behind 9
   numbers : (c : lts.After-entry-at (claims t) (own t) image.Post) → (1 ≤ c .entry-at .result .kind) × (c .entry-at .result .kind ≤ 9)
-  numbers c = rw (opened c .fields .kind) (path-kind (entries (now (start c .args .table))) (start c .args .walk .entry) (start c .pre .1 .1 .entry .sort))
+  numbers c = rw (opened c .fields .kind)
+      (path-kind (entries (now (start c .args .table))) (start c .args .walk .entry) (start c .pre .1 .1 .entry .sort))
 
   returns-8 : lts.Need-returns-8 (claims t) (own t) image.Post
   returns-8 c =

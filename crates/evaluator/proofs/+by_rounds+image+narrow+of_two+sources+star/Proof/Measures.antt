@@ -1,5 +1,5 @@
--- The measures of the evaluator's functions, which call each other: the entry number falls, and a star and what it is made of stand above their path.
--- Assumes nothing.
+-- The measures of the evaluator's functions, which call each other: the entry number falls, and a star and what it is made of stand above
+-- their path. Assumes nothing.
 use Prim.Native.Nat.{ℕ, _+_, _*_}
 use borrow.Fn.PlainCycle.{Measures}
 use Rattle.evaluator.proofs.by_rounds.Kinds as by-rounds-kinds

@@ -38,7 +38,26 @@ abbrev own : ℕ → In 4 narrow-kinds.ps
 own = calls.given narrow-kinds.ps μ-narrow narrow.Pre
 
 abbrev claims : ℕ → lts.Claims
-claims t = (is-empty.Asked, is-empty.Learnt, common.Asked, common.Learnt, entry-at.Asked, entry-at.Learnt, labelled.Asked, labelled.Learnt, calls.asked image-kinds.ps μ-image image.Pre t, image.Post, calls.asked narrow-kinds.ps μ-narrow narrow.Pre t, narrow.Post, difference.Asked, difference.Learnt, union.Asked, union.Learnt, empty.Asked, empty.Learnt)
+claims t = (
+  is-empty.Asked,
+  is-empty.Learnt,
+  common.Asked,
+  common.Learnt,
+  entry-at.Asked,
+  entry-at.Learnt,
+  labelled.Asked,
+  labelled.Learnt,
+  calls.asked image-kinds.ps μ-image image.Pre t,
+  image.Post,
+  calls.asked narrow-kinds.ps μ-narrow narrow.Pre t,
+  narrow.Post,
+  difference.Asked,
+  difference.Learnt,
+  union.Asked,
+  union.Learnt,
+  empty.Asked,
+  empty.Learnt,
+)
 
 module _ (t : ℕ) where
   is-empty-requires : lts.Need-is-empty-requires (claims t) (own t) narrow.Post
@@ -56,7 +75,8 @@ module _ (t : ℕ) where
       let same = c .before .before in
       let start = same .before .before .before .before .before in
       let entry = start .pre .1 .1 .entry .within in
-      narrow-known (λ e. holds (nodes (now (start .args .roll))) (filterAt (entries (now (start .args .table))) e)) (same .if2 .taken) (start .pre .1 .0 .answer) entry (start .pre .1 .1 .nodes-only) (c .common .ensures)
+      narrow-known (λ e. holds (nodes (now (start .args .roll))) (filterAt (entries (now (start .args .table))) e)) (same .if2 .taken)
+      (start .pre .1 .0 .answer) entry (start .pre .1 .1 .nodes-only) (c .common .ensures)
 
   entry-at-requires : lts.Need-entry-at-requires (claims t) (own t) narrow.Post
   entry-at-requires c κs = search needs
@@ -106,7 +126,8 @@ module _ (t : ℕ) where
       let k = ends .before .before in
       let p = pathAt (entries (now (start k .args .table))) (k .entry-at .result .left) in
       rw (is-leads (entry-read (opened k)) (ends .before .match .keys2) .1)
-      (narrow-leads (free-reaches (tree k) p) (turn-right (tree k) p) (ends .image .ensures) (starts .image2 .ensures) (c .common2 .ensures))
+      (narrow-leads (free-reaches (tree k) p) (turn-right (tree k) p) (ends .image .ensures) (starts .image2 .ensures)
+      (c .common2 .ensures))
 
   -- true
   returns-5 : lts.Need-returns-5 (claims t) (own t) narrow.Post
@@ -126,7 +147,8 @@ module _ (t : ℕ) where
   unfolding holds
   returns-6 c =
       let k = c .before .before .before in
-      rw (is-not (entry-read (opened k)) (c .before .before .match .keys4) .1) (narrow-not (c .before .narrow .ensures) (c .difference .ensures))
+      rw (is-not (entry-read (opened k)) (c .before .before .match .keys4) .1)
+      (narrow-not (c .before .narrow .ensures) (c .difference .ensures))
 
   -- and
   narrow-requires-2 : lts.Need-narrow-requires-2 (claims t) (own t) narrow.Post
@@ -144,7 +166,8 @@ module _ (t : ℕ) where
   unfolding holds
   returns-7 c =
       let k = c .before .before .before in
-      rw (is-and (entry-read (opened k)) (c .before .before .match .keys5) .1) (narrow-and (c .before .narrow2 .ensures) (c .narrow3 .ensures))
+      rw (is-and (entry-read (opened k)) (c .before .before .match .keys5) .1)
+      (narrow-and (c .before .narrow2 .ensures) (c .narrow3 .ensures))
 
   -- or
   narrow-requires-4 : lts.Need-narrow-requires-4 (claims t) (own t) narrow.Post
@@ -182,7 +205,8 @@ module _ (t : ℕ) where
   unfolding holds
   returns-9 c =
       let k = c .before .before in
-      let numbers = rw (← k .entry-at .ensures .kind) at (filter-kind (entries (now (start k .args .table))) (start k .args .e) (start k .pre .1 .1 .entry .sort)) in
+      let numbers = rw (← k .entry-at .ensures .kind) at
+      (filter-kind (entries (now (start k .args .table))) (start k .args .e) (start k .pre .1 .1 .entry .sort)) in
       let is : k .entry-at .result .kind ≡ 19 = omega (arith, numbers, c .before .match .rest) in
       rw (is-never (entry-read (opened k)) is) (narrow-never (c .empty .ensures))
 

@@ -50,7 +50,28 @@ abbrev own : ℕ → In 4 of-two-kinds.ps
 own = calls.given of-two-kinds.ps μ-of-two of-two.Pre
 
 abbrev claims : ℕ → lts.Claims
-claims t = (entry-at.Asked, entry-at.Learnt, first-of.Asked, first-of.Learnt, stays-at-hand.Asked, stays-at-hand.Learnt, way-of.Asked, way-of.Learnt, calls.asked sources-kinds.ps μ-sources sources.Pre t, sources.Post, closure.Asked, closure.Learnt, step.Asked, step.Learnt, common.Asked, common.Learnt, union.Asked, union.Learnt, calls.asked by-rounds-kinds.ps μ-by-rounds by-rounds.Pre t, by-rounds.Post)
+claims t = (
+  entry-at.Asked,
+  entry-at.Learnt,
+  first-of.Asked,
+  first-of.Learnt,
+  stays-at-hand.Asked,
+  stays-at-hand.Learnt,
+  way-of.Asked,
+  way-of.Learnt,
+  calls.asked sources-kinds.ps μ-sources sources.Pre t,
+  sources.Post,
+  closure.Asked,
+  closure.Learnt,
+  step.Asked,
+  step.Learnt,
+  common.Asked,
+  common.Learnt,
+  union.Asked,
+  union.Learnt,
+  calls.asked by-rounds-kinds.ps μ-by-rounds by-rounds.Pre t,
+  by-rounds.Post,
+)
 
 module _ (t : ℕ) where
   entry-at-requires : lts.Need-entry-at-requires (claims t) (own t) of-two.Post
@@ -73,7 +94,8 @@ module _ (t : ℕ) where
     abbrev es : Entries
     es = entries (now (start .args .table))
 
-    given : Knowing (now (start .args .roll)) (now (start .args .table)) (now (start .args .links)) (start .args .walk .known) (now (start .args .held))
+    given : Knowing (now (start .args .roll)) (now (start .args .table)) (now (start .args .links)) (start .args .walk .known)
+        (now (start .args .held))
     given = start .pre .1 .0 .0
 
     asked : Asked (now (start .args .roll)) (now (start .args .table)) path (start .args .walk .entry) (start .args .from)
@@ -83,20 +105,26 @@ module _ (t : ℕ) where
     read : Read (now (start .args .table)) path (start .args .walk .entry) (found .before .before .entry-at .result)
     read = record { order = given .grounds .each; entry = asked .entry; fields = found .before .before .entry-at .ensures }
 
-    parts : Parts (now (start .args .table)) (start .args .walk .course) (start .args .walk .entry) (found .before .first-of .result) (found .first-of2 .result)
+    parts : Parts (now (start .args .table)) (start .args .walk .course) (start .args .walk .entry) (found .before .first-of .result)
+        (found .first-of2 .result)
     parts =
-        parts-of read (found .before .before .entry-at .ensures .kind ∙ start .pre .1 .1) (start .args .walk .course) (found .before .first-of .ensures)
+        parts-of read (found .before .before .entry-at .ensures .kind ∙ start .pre .1 .1) (start .args .walk .course)
+        (found .before .first-of .ensures)
         (found .first-of2 .ensures)
 
     -- a part that is a filter is asked in a call of its own
-    filtered : {x : ℕ} {set : List ℕ} → OperandField es (start .args .walk .entry) (of path) x → entryAt es x .kind ≡ 6 → Inside (length tree) set
+    filtered : {x : ℕ} {set : List ℕ} → OperandField es (start .args .walk .entry) (of path) x → entryAt es x .kind ≡ 6
+        → Inside (length tree) set
         → (4 * x + 1 < t)
-        × ((Knowing (now (start .args .roll)) (now (start .args .table)) (now (start .args .links)) (start .args .walk .known) (now (start .args .held))
+        × ((Knowing (now (start .args .roll)) (now (start .args .table)) (now (start .args .links)) (start .args .walk .known)
+        (now (start .args .held))
         × Asked (now (start .args .roll)) (now (start .args .table)) path x set)
         × Still (facing (start .args .walk .course) (pathAt es x)))
     filtered f is inside =
-        let (l, w) = operand-within (asked .entry) f in
-        (omega (arith, start .pre .0), ((given, record { entry = w; nodes-only = inside }), stays-at (given .grounds .each) w is (start .args .walk .course)))
+        let (l, w) = operand-within (asked .entry) f in (
+          omega (arith, start .pre .0),
+          ((given, record { entry = w; nodes-only = inside }), stays-at (given .grounds .each) w is (start .args .walk .course)),
+        )
 
     -- steps stay among the nodes, and so does where the first one leads
     along : {axes : Axes} → Stays (length tree) (AlongAny tree axes)
@@ -109,10 +137,12 @@ module _ (t : ℕ) where
     rolled = (given .grounds .roll-right, given .grounds .linked)
 
   -- the one that is tested stays by a filter
-  is-first : (c : lts.Then1 (claims t) (own t) of-two.Post) → let s = c .before .before in entryAt (es s) (s .before .first-of .result) .kind ≡ 6
+  is-first : (c : lts.Then1 (claims t) (own t) of-two.Post) → let s = c .before .before in
+      entryAt (es s) (s .before .first-of .result) .kind ≡ 6
   is-first c = c .before .stays-at-hand .ensures (subst T (sym (c .if1 .taken)) tt)
 
-  is-last : (c : lts.Then2 (claims t) (own t) of-two.Post) → let s = c .before .before .before .before in entryAt (es s) (s .first-of2 .result) .kind ≡ 6
+  is-last : (c : lts.Then2 (claims t) (own t) of-two.Post) → let s = c .before .before .before .before in
+      entryAt (es s) (s .first-of2 .result) .kind ≡ 6
   is-last c = c .before .stays-at-hand2 .ensures (subst T (sym (c .if2 .taken)) tt)
 
   stays-at-hand-requires : lts.Need-stays-at-hand-requires (claims t) (own t) of-two.Post

@@ -31,7 +31,16 @@ abbrev own : ℕ → In 4 sources-kinds.ps
 own = calls.given sources-kinds.ps μ-sources sources.Pre
 
 abbrev claims : ℕ → lts.Claims
-claims t = (calls.asked image-kinds.ps μ-image image.Pre t, image.Post, is-empty.Asked, is-empty.Learnt, count.Asked, count.Learnt, below.Asked, below.Learnt)
+claims t = (
+  calls.asked image-kinds.ps μ-image image.Pre t,
+  image.Post,
+  is-empty.Asked,
+  is-empty.Learnt,
+  count.Asked,
+  count.Learnt,
+  below.Asked,
+  below.Learnt,
+)
 
 module _ (t : ℕ) where
   -- what it was given
@@ -73,7 +82,8 @@ module _ (t : ℕ) where
   image-requires-2 : lts.Need-image-requires-2 (claims t) (own t) sources.Post
   image-requires-2 c κs =
       let s = c .before .before .before .before .before .before .before in
-      let inside : Inside (length (tree s)) (c .below .result) = λ k x. rw (c .before .count .ensures) at (c .below .ensures .exact k .0 x) in
+      let inside : Inside (length (tree s)) (c .below .result) = λ k x. rw (c .before .count .ensures) at
+      (c .below .ensures .exact k .0 x) in
       (omega (arith, s .pre .0), (given s, record { entry = asked s .entry; nodes-only = inside }))
 
   returns-2 : lts.Need-returns-2 (claims t) (own t) sources.Post
@@ -83,7 +93,8 @@ module _ (t : ℕ) where
       let still = s .pre .1 .1 (tree s) in
       record {
         sound = λ k x. let (i, y, held) = c .image2 .ensures .exact k .0 x in rw (still i k held) at held;
-        whole = inl (λ k l held. c .image2 .ensures .exact k .1 (k, all .below .ensures .exact k .1 (rw (all .before .count .ensures) l), held));
+        whole = inl
+            (λ k l held. c .image2 .ensures .exact k .1 (k, all .below .ensures .exact k .1 (rw (all .before .count .ensures) l), held));
       }
 
   pub meets : {M : Type 1} → lts.Closed (claims t) (own t) sources.Post M

@@ -34,7 +34,22 @@ abbrev own : ℕ → In 4 star-kinds.ps
 own = calls.given star-kinds.ps μ-star star.Pre
 
 abbrev claims : ℕ → lts.Claims
-claims t = (entry-at.Asked, entry-at.Learnt, calls.asked of-two-kinds.ps μ-of-two of-two.Pre t, of-two.Post, calls.asked star-kinds.ps μ-star star.Pre t, star.Post, way-of.Asked, way-of.Learnt, below.Asked, below.Learnt, closure.Asked, closure.Learnt, calls.asked by-rounds-kinds.ps μ-by-rounds by-rounds.Pre t, by-rounds.Post)
+claims t = (
+  entry-at.Asked,
+  entry-at.Learnt,
+  calls.asked of-two-kinds.ps μ-of-two of-two.Pre t,
+  of-two.Post,
+  calls.asked star-kinds.ps μ-star star.Pre t,
+  star.Post,
+  way-of.Asked,
+  way-of.Learnt,
+  below.Asked,
+  below.Learnt,
+  closure.Asked,
+  closure.Learnt,
+  calls.asked by-rounds-kinds.ps μ-by-rounds by-rounds.Pre t,
+  by-rounds.Post,
+)
 
 module _ (t : ℕ) where
   entry-at-requires : lts.Need-entry-at-requires (claims t) (own t) star.Post
@@ -71,7 +86,8 @@ module _ (t : ℕ) where
   returns-2 : lts.Need-returns-2 (claims t) (own t) star.Post
   returns-2 c =
       let k = c .before .before in
-      rw (is-star (entry-read (opened k)) (c .before .match .keys2) .1) (walk-star-star (tree k) (start k .args .walk .course) _ (c .star .ensures))
+      rw (is-star (entry-read (opened k)) (c .before .match .keys2) .1)
+      (walk-star-star (tree k) (start k .args .walk .course) _ (c .star .ensures))
 
   -- along axes, from each node once
   way-of-requires : lts.Need-way-of-requires (claims t) (own t) star.Post
@@ -84,7 +100,8 @@ module _ (t : ℕ) where
   below-requires c κs = search needs
 
   closure-requires : lts.Need-closure-requires (claims t) (own t) star.Post
-  closure-requires c κs = let g = opened (c .before .before .before .before .before .before) .given in (g .grounds .roll-right, g .grounds .linked)
+  closure-requires c κs = let g = opened (c .before .before .before .before .before .before) .given in
+      (g .grounds .roll-right, g .grounds .linked)
 
   returns-3 : lts.Need-returns-3 (claims t) (own t) star.Post
   unfolding reach
@@ -102,7 +119,8 @@ module _ (t : ℕ) where
   enum-told c = search needs
 
   by-rounds-requires : lts.Need-by-rounds-requires (claims t) (own t) star.Post
-  by-rounds-requires c κs = let k = c .before .before .before .before in (omega (arith, start k .pre .0), (opened k .given, opened k .asked))
+  by-rounds-requires c κs = let k = c .before .before .before .before in
+      (omega (arith, start k .pre .0), (opened k .given, opened k .asked))
 
   returns-4 : lts.Need-returns-4 (claims t) (own t) star.Post
   unfolding reach

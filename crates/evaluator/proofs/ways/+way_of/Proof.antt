@@ -31,7 +31,20 @@ abbrev own : ℕ → In 1 kinds.ps
 own = given kinds.ps μ way-of.Pre
 
 abbrev claims : ℕ → lts.Claims
-claims t = (entry-at.Asked, entry-at.Learnt, asked kinds.ps μ way-of.Pre t, way-of.Post, either.Asked, either.Learnt, axis-of.Asked, axis-of.Learnt, way.Asked, way.Learnt, only.Asked, only.Learnt)
+claims t = (
+  entry-at.Asked,
+  entry-at.Learnt,
+  asked kinds.ps μ way-of.Pre t,
+  way-of.Post,
+  either.Asked,
+  either.Learnt,
+  axis-of.Asked,
+  axis-of.Learnt,
+  way.Asked,
+  way.Learnt,
+  only.Asked,
+  only.Learnt,
+)
 
 module _ (t : ℕ) where
   entry-at-requires : lts.Need-entry-at-requires (claims t) (own t) way-of.Post
