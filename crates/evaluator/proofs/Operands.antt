@@ -48,15 +48,15 @@ operand-within w (l, h) = (l, record { within = omega (arith, w .within); sort =
 
 -- What a function of the evaluator has once it has read the entry that is asked of a set of nodes.
 pub record Opened (roll tab : Bytes) (links : List ℕ) (known : ℕ) (holding : List ℕ) (s : Sort) (e : ℕ) (from : List ℕ)
-    (read : Entry) : Type 0 where
+    (row : Entry) : Type 0 where
   pub given : Knowing roll tab links known holding
   pub asked : Asked roll tab s e from
-  pub fields : Fields (entryAt (entries tab) e) read
+  pub fields : Fields (entryAt (entries tab) e) row
 
-module _ {roll tab : Bytes} {links : List ℕ} {known : ℕ} {holding : List ℕ} {s : Sort} {e : ℕ} {from : List ℕ} {read : Entry}
-    (k : Opened roll tab links known holding s e from read) where
-  pub entry-read : Read tab s e read
-  entry-read = record { order = k .given .grounds .each; entry = k .asked .entry; fields = k .fields }
+module _ {roll tab : Bytes} {links : List ℕ} {known : ℕ} {holding : List ℕ} {s : Sort} {e : ℕ} {from : List ℕ} {row : Entry}
+    (k : Opened roll tab links known holding s e from row) where
+  pub read : Read tab s e row
+  read = record { order = k .given .grounds .each; entry = k .asked .entry; fields = k .fields }
 
   -- a path stays among the nodes
   pub path-stays : (p : Path) → Stays (length (nodes roll)) (reach (nodes roll) p)
@@ -73,6 +73,11 @@ module _ {roll tab : Bytes} {links : List ℕ} {known : ℕ} {holding : List ℕ
       → Inside (length (nodes roll)) set
       → (4 * x < t) × (Knowing roll tab links known holding × Asked roll tab o x set)
   operand-below m f inside = let (l, more) = operand m f inside in (omega arith, more)
+
+  -- it may be asked of the same nodes
+  pub operand-same : {o : Sort} {x t : ℕ} → 4 * e ≡ t → OperandField (entries tab) e (of o) x
+      → (4 * x < t) × (Knowing roll tab links known holding × Asked roll tab o x from)
+  operand-same m f = operand-below m f (k .asked .nodes-only)
 
 module _ {tab : Bytes} {s : Sort} {e : ℕ} {read : Entry} (k : Read tab s e read) where
   -- it is the table's

@@ -17,7 +17,7 @@ use Rattle.query.specs.Table.{entries}
 use Rattle.query.proofs.Standing.{path-kind}
 use Rattle.evaluator.specs.Evaluator.{Asked}
 use Rattle.evaluator.proofs.Images.{image-empty, image-inside, image-same, image-then}
-use Rattle.evaluator.proofs.Operands.{none-behind, Opened, entry-read, path-stays, operand, operand-below, is-self, is-axis, is-stay, is-either, is-star, Parts, parts-of}
+use Rattle.evaluator.proofs.Operands.{none-behind, Opened, read, path-stays, operand, operand-below, operand-same, is-self, is-axis, is-stay, is-either, is-star, Parts, parts-of}
 use Rattle.evaluator.proofs.Walks.{walk-self, walk-free, walk-stay, walk-either, walk-star}
 use Rattle.evaluator.proofs.+by_rounds+image+narrow+of_two+sources+star.Proof.Measures.{μ-image, μ-narrow, μ-star}
 use Rattle.evaluator.proofs.+by_rounds+image+narrow+of_two+sources+star.Lts-image as lts
@@ -111,7 +111,7 @@ module _ (t : ℕ) where
       let turned = alone .before in
       let found = turned .before in
       let k = found .before .before .before .before in
-      rw (is-axis (entry-read (opened k)) (found .axis-of .ensures))
+      rw (is-axis (read (opened k)) (found .axis-of .ensures))
       (image-same (λ i j. Iff·trans (alone .only .ensures (tree k) i j) (turned .way .ensures (tree k) i j)) (c .step .ensures))
 
   -- stay if the filter holds, or where it is taken to hold
@@ -122,20 +122,19 @@ module _ (t : ℕ) where
   returns-2 c =
       let tested = c .before in
       let k = tested .before .before in
-      rw (is-stay (entry-read (opened k)) (tested .before .match .keys1) .1)
+      rw (is-stay (read (opened k)) (tested .before .match .keys1) .1)
       (walk-free (tree k) (start k .args .walk .course) _ (sym (tested .is-free .ensures) ∙ c .if2 .taken))
 
   narrow-requires : lts.Need-narrow-requires (claims t) (own t) image.Post
   narrow-requires c κs =
       let k = c .before .before .before in
-      operand-below (opened k) (start k .pre .0) (is-stay (entry-read (opened k)) (c .before .before .match .keys1) .0)
-      (start k .pre .1 .1 .nodes-only)
+      operand-same (opened k) (start k .pre .0) (is-stay (read (opened k)) (c .before .before .match .keys1) .0)
 
   returns-3 : lts.Need-returns-3 (claims t) (own t) image.Post
   returns-3 c =
       let tested = c .before .before in
       let k = tested .before .before in
-      rw (is-stay (entry-read (opened k)) (tested .before .match .keys1) .1)
+      rw (is-stay (read (opened k)) (tested .before .match .keys1) .1)
       (walk-stay (tree k) (start k .args .walk .course) _ (sym (tested .is-free .ensures) ∙ c .before .if2 .left) (c .narrow .ensures))
 
   -- left, then right, or the other way round: what comes first is asked of the set, and what comes second of what that reaches
@@ -153,14 +152,14 @@ module _ (t : ℕ) where
         (found .before .first-of .result)
         (found .first-of2 .result)
     parts =
-        parts-of (entry-read (opened whole)) (found .before .before .match .keys2) (start whole .args .walk .course)
+        parts-of (read (opened whole)) (found .before .before .match .keys2) (start whole .args .walk .course)
         (found .before .first-of .ensures)
         (found .first-of2 .ensures)
 
   image-requires : lts.Need-image-requires (claims t) (own t) image.Post
   image-requires c κs =
       let k = whole c in
-      operand-below (opened k) (start k .pre .0) (parts c .one) (start k .pre .1 .1 .nodes-only)
+      operand-same (opened k) (start k .pre .0) (parts c .one)
 
   image-requires-2 : lts.Need-image-requires-2 (claims t) (own t) image.Post
   image-requires-2 c κs =
@@ -178,14 +177,12 @@ module _ (t : ℕ) where
   image-requires-3 : lts.Need-image-requires-3 (claims t) (own t) image.Post
   image-requires-3 c κs =
       let k = c .before in
-      operand-below (opened k) (start k .pre .0) (is-either (entry-read (opened k)) (c .match .keys3) .0 .0)
-      (start k .pre .1 .1 .nodes-only)
+      operand-same (opened k) (start k .pre .0) (is-either (read (opened k)) (c .match .keys3) .0 .0)
 
   image-requires-4 : lts.Need-image-requires-4 (claims t) (own t) image.Post
   image-requires-4 c κs =
       let k = c .before .before in
-      operand-below (opened k) (start k .pre .0) (is-either (entry-read (opened k)) (c .before .match .keys3) .0 .1)
-      (start k .pre .1 .1 .nodes-only)
+      operand-same (opened k) (start k .pre .0) (is-either (read (opened k)) (c .before .match .keys3) .0 .1)
 
   union-requires : lts.Need-union-requires (claims t) (own t) image.Post
   union-requires c κs = search needs
@@ -195,20 +192,19 @@ module _ (t : ℕ) where
       let other = c .before in
       let one = other .before in
       let k = one .before .before in
-      rw (is-either (entry-read (opened k)) (one .before .match .keys3) .1)
+      rw (is-either (read (opened k)) (one .before .match .keys3) .1)
       (walk-either (tree k) _ _ (start k .args .walk .course) (one .image3 .ensures) (other .image4 .ensures) (c .union .ensures))
 
   -- zero or more times
   star-requires : lts.Need-star-requires (claims t) (own t) image.Post
   star-requires c κs =
       let k = c .before in
-      operand (opened k) (start k .pre .0) (is-star (entry-read (opened k)) (c .match .keys4) .0) (start k .pre .1 .1 .nodes-only)
+      operand (opened k) (start k .pre .0) (is-star (read (opened k)) (c .match .keys4) .0) (start k .pre .1 .1 .nodes-only)
 
   returns-6 : lts.Need-returns-6 (claims t) (own t) image.Post
   returns-6 c =
       let k = c .before .before in
-      rw (is-star (entry-read (opened k)) (c .before .match .keys4) .1)
-      (walk-star (tree k) (start k .args .walk .course) _ (c .star .ensures))
+      rw (is-star (read (opened k)) (c .before .match .keys4) .1) (walk-star (tree k) (start k .args .walk .course) _ (c .star .ensures))
 
   -- self is the one path that is left, and none is behind 9
   numbers : (c : lts.After-entry-at (claims t) (own t) image.Post) → (1 ≤ c .entry-at .result .kind) × (c .entry-at .result .kind ≤ 9)
@@ -218,7 +214,7 @@ module _ (t : ℕ) where
   returns-8 : lts.Need-returns-8 (claims t) (own t) image.Post
   returns-8 c =
       let k = c .before .before in
-      rw (is-self (entry-read (opened k)) (omega (arith, numbers k))) (walk-self (tree k) (start k .args .walk .course))
+      rw (is-self (read (opened k)) (omega (arith, numbers k))) (walk-self (tree k) (start k .args .walk .course))
 
   returns-9 : lts.Need-returns-9 (claims t) (own t) image.Post
   returns-9 c =

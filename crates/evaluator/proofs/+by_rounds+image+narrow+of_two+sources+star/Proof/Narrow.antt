@@ -18,7 +18,7 @@ use Rattle.query.proofs.Turn.{turn-right, free-reaches}
 use Rattle.evaluator.specs.Evaluator.{Asked}
 use Rattle.evaluator.proofs.Images.{image-inside, narrowed-inside}
 use Rattle.evaluator.proofs.Filters.{narrow-empty, narrow-known, narrow-always, narrow-never, narrow-leads, narrow-not, narrow-and, narrow-or}
-use Rattle.evaluator.proofs.Operands.{Opened, entry-read, path-stays, operand-below, is-labelled, is-leads, is-always, is-never, is-not, is-and, is-or}
+use Rattle.evaluator.proofs.Operands.{Opened, read, path-stays, operand-below, operand-same, is-labelled, is-leads, is-always, is-never, is-not, is-and, is-or}
 use Rattle.evaluator.proofs.+by_rounds+image+narrow+of_two+sources+star.Proof.Measures.{μ-image, μ-narrow}
 use Rattle.evaluator.proofs.+by_rounds+image+narrow+of_two+sources+star.Lts-narrow as lts
 use Rattle.evaluator.proofs.image.Reads as image
@@ -101,18 +101,18 @@ module _ (t : ℕ) where
   unfolding holds
   returns-3 c =
       let k = c .before .before in
-      rw (is-labelled (entry-read (opened k)) (c .before .match .keys1)) (c .labelled .ensures)
+      rw (is-labelled (read (opened k)) (c .before .match .keys1)) (c .labelled .ensures)
 
   -- left leads somewhere
   image-requires : lts.Need-image-requires (claims t) (own t) narrow.Post
   image-requires c κs =
       let k = c .before in
-      operand-below (opened k) (start k .pre .0) (is-leads (entry-read (opened k)) (c .match .keys2) .0) (start k .pre .1 .1 .nodes-only)
+      operand-same (opened k) (start k .pre .0) (is-leads (read (opened k)) (c .match .keys2) .0)
 
   image-requires-2 : lts.Need-image-requires-2 (claims t) (own t) narrow.Post
   image-requires-2 c κs =
       let k = c .before .before in
-      operand-below (opened k) (start k .pre .0) (is-leads (entry-read (opened k)) (c .before .match .keys2) .0)
+      operand-below (opened k) (start k .pre .0) (is-leads (read (opened k)) (c .before .match .keys2) .0)
       (image-inside (path-stays (opened k) _) (start k .pre .1 .1 .nodes-only) (c .image .ensures))
 
   common-requires-2 : lts.Need-common-requires-2 (claims t) (own t) narrow.Post
@@ -125,20 +125,20 @@ module _ (t : ℕ) where
       let ends = starts .before in
       let k = ends .before .before in
       let p = pathAt (entries (now (start k .args .table))) (k .entry-at .result .left) in
-      rw (is-leads (entry-read (opened k)) (ends .before .match .keys2) .1)
+      rw (is-leads (read (opened k)) (ends .before .match .keys2) .1)
       (narrow-leads (free-reaches (tree k) p) (turn-right (tree k) p) (ends .image .ensures) (starts .image2 .ensures)
       (c .common2 .ensures))
 
   -- true
   returns-5 : lts.Need-returns-5 (claims t) (own t) narrow.Post
   unfolding holds
-  returns-5 c = let k = c .before in rw (is-always (entry-read (opened k)) (c .match .keys3)) narrow-always
+  returns-5 c = let k = c .before in rw (is-always (read (opened k)) (c .match .keys3)) narrow-always
 
   -- not
   narrow-requires : lts.Need-narrow-requires (claims t) (own t) narrow.Post
   narrow-requires c κs =
       let k = c .before in
-      operand-below (opened k) (start k .pre .0) (is-not (entry-read (opened k)) (c .match .keys4) .0) (start k .pre .1 .1 .nodes-only)
+      operand-same (opened k) (start k .pre .0) (is-not (read (opened k)) (c .match .keys4) .0)
 
   difference-requires : lts.Need-difference-requires (claims t) (own t) narrow.Post
   difference-requires c κs = search needs
@@ -147,33 +147,31 @@ module _ (t : ℕ) where
   unfolding holds
   returns-6 c =
       let k = c .before .before .before in
-      rw (is-not (entry-read (opened k)) (c .before .before .match .keys4) .1)
-      (narrow-not (c .before .narrow .ensures) (c .difference .ensures))
+      rw (is-not (read (opened k)) (c .before .before .match .keys4) .1) (narrow-not (c .before .narrow .ensures) (c .difference .ensures))
 
   -- and
   narrow-requires-2 : lts.Need-narrow-requires-2 (claims t) (own t) narrow.Post
   narrow-requires-2 c κs =
       let k = c .before in
-      operand-below (opened k) (start k .pre .0) (is-and (entry-read (opened k)) (c .match .keys5) .0 .0) (start k .pre .1 .1 .nodes-only)
+      operand-same (opened k) (start k .pre .0) (is-and (read (opened k)) (c .match .keys5) .0 .0)
 
   narrow-requires-3 : lts.Need-narrow-requires-3 (claims t) (own t) narrow.Post
   narrow-requires-3 c κs =
       let k = c .before .before in
       let within = narrowed-inside (start k .pre .1 .1 .nodes-only) (c .narrow2 .ensures) in
-      operand-below (opened k) (start k .pre .0) (is-and (entry-read (opened k)) (c .before .match .keys5) .0 .1) within
+      operand-below (opened k) (start k .pre .0) (is-and (read (opened k)) (c .before .match .keys5) .0 .1) within
 
   returns-7 : lts.Need-returns-7 (claims t) (own t) narrow.Post
   unfolding holds
   returns-7 c =
       let k = c .before .before .before in
-      rw (is-and (entry-read (opened k)) (c .before .before .match .keys5) .1)
-      (narrow-and (c .before .narrow2 .ensures) (c .narrow3 .ensures))
+      rw (is-and (read (opened k)) (c .before .before .match .keys5) .1) (narrow-and (c .before .narrow2 .ensures) (c .narrow3 .ensures))
 
   -- or
   narrow-requires-4 : lts.Need-narrow-requires-4 (claims t) (own t) narrow.Post
   narrow-requires-4 c κs =
       let k = c .before in
-      operand-below (opened k) (start k .pre .0) (is-or (entry-read (opened k)) (c .match .keys6) .0 .0) (start k .pre .1 .1 .nodes-only)
+      operand-same (opened k) (start k .pre .0) (is-or (read (opened k)) (c .match .keys6) .0 .0)
 
   difference-requires-2 : lts.Need-difference-requires-2 (claims t) (own t) narrow.Post
   difference-requires-2 c κs = search needs
@@ -182,7 +180,7 @@ module _ (t : ℕ) where
   narrow-requires-5 c κs =
       let k = c .before .before .before in
       let within = narrowed-inside (start k .pre .1 .1 .nodes-only) (c .difference2 .ensures) in
-      operand-below (opened k) (start k .pre .0) (is-or (entry-read (opened k)) (c .before .before .match .keys6) .0 .1) within
+      operand-below (opened k) (start k .pre .0) (is-or (read (opened k)) (c .before .before .match .keys6) .0 .1) within
 
   union-requires : lts.Need-union-requires (claims t) (own t) narrow.Post
   union-requires c κs = search needs
@@ -194,7 +192,7 @@ module _ (t : ℕ) where
       let rest = second .before in
       let first = rest .before in
       let k = first .before .before in
-      rw (is-or (entry-read (opened k)) (first .before .match .keys6) .1)
+      rw (is-or (read (opened k)) (first .before .match .keys6) .1)
       (narrow-or (first .narrow4 .ensures) (rest .difference2 .ensures) (second .narrow5 .ensures) (c .union .ensures))
 
   -- false is the one filter that is left
@@ -208,7 +206,7 @@ module _ (t : ℕ) where
       let numbers = rw (← k .entry-at .ensures .kind) at
       (filter-kind (entries (now (start k .args .table))) (start k .args .e) (start k .pre .1 .1 .entry .sort)) in
       let is : k .entry-at .result .kind ≡ 19 = omega (arith, numbers, c .before .match .rest) in
-      rw (is-never (entry-read (opened k)) is) (narrow-never (c .empty .ensures))
+      rw (is-never (read (opened k)) is) (narrow-never (c .empty .ensures))
 
   pub meets : {M : Type 1} → lts.Closed (claims t) (own t) narrow.Post M
   meets = lts.spec (claims t) (own t) narrow.Post is-empty-requires returns common-requires returns-2 entry-at-requires labelled-requires

@@ -14,7 +14,7 @@ use Rattle.query.specs.Meaning.{reach}
 use Rattle.evaluator.specs.Evaluator.{Asked}
 use Rattle.evaluator.proofs.Images.{image-star}
 use Rattle.evaluator.proofs.Walks.{walk-star-star}
-use Rattle.evaluator.proofs.Operands.{Opened, entry-read, operand, is-star}
+use Rattle.evaluator.proofs.Operands.{Opened, read, operand, is-star}
 use Rattle.evaluator.proofs.Stepping.{star-of-steps}
 use Rattle.evaluator.proofs.+by_rounds+image+narrow+of_two+sources+star.Proof.Measures.{μ-by-rounds, μ-of-two, μ-star}
 use Rattle.evaluator.proofs.+by_rounds+image+narrow+of_two+sources+star.Lts-star as lts
@@ -80,13 +80,13 @@ module _ (t : ℕ) where
   star-requires : lts.Need-star-requires (claims t) (own t) star.Post
   star-requires c κs =
       let k = c .before in
-      let (l, more) = operand (opened k) refl (is-star (entry-read (opened k)) (c .match .keys2) .0) (opened k .asked .nodes-only) in
+      let (l, more) = operand (opened k) refl (is-star (read (opened k)) (c .match .keys2) .0) (opened k .asked .nodes-only) in
       (omega (arith, start k .pre .0), more)
 
   returns-2 : lts.Need-returns-2 (claims t) (own t) star.Post
   returns-2 c =
       let k = c .before .before in
-      rw (is-star (entry-read (opened k)) (c .before .match .keys2) .1)
+      rw (is-star (read (opened k)) (c .before .match .keys2) .1)
       (walk-star-star (tree k) (start k .args .walk .course) _ (c .star .ensures))
 
   -- along axes, from each node once
