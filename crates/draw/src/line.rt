@@ -4,7 +4,9 @@ use curator::curators_answer;
 use lines::LONGEST;
 use lines::write_line;
 use reader::read_text;
+use reply::BITMAP_ROOM;
 use reply::Reply;
+use reply::TABLE_ROOM;
 ghost use Prim.Native.Nat.{_≤_};
 ghost use lib.ListN.{length};
 ghost use Rattle.lines.specs.Line.{longest};
@@ -18,8 +20,8 @@ fn answer_line(roll: &[u8], view: &[u8], filters: &[u8], text: &[u8], out: &mut 
         (LineFor (now (roll .entry)) (now (view .entry)) (now (filters .entry)) (now (text .entry)))
         (now (out .entry)) r (now (out .exit)) ⌝ }
 {
-    let mut table = [0u8; 1536];
-    let mut map = [0u8; 512];
+    let mut table = [0u8; TABLE_ROOM];
+    let mut map = [0u8; BITMAP_ROOM];
     let read = read_text(text, &mut table);
     let Reply::Count(n) = read else {
         return write_line(read, &map, out);

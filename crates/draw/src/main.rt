@@ -5,14 +5,17 @@ mod line;
 mod stream;
 
 use file::load;
+use reply::FILTER_ENTRIES;
+use reply::NODES;
+use reply::RECORDS;
 use stream::draw;
 use stream::unreadable;
 
 // A file that is longer than its table may be is cut one record behind that, and is refused by its length all the same.
 fn main() {
-    let mut roll = [0u8; 16388];
-    let mut view = [0u8; 198];
-    let mut filters = [0u8; 1542];
+    let mut roll = [0u8; 4 * NODES + 4];
+    let mut view = [0u8; 6 * RECORDS + 6];
+    let mut filters = [0u8; 6 * FILTER_ENTRIES + 6];
     let roll_file = load(b"roll.rec", &mut roll);
     let view_file = load(b"view.rec", &mut view);
     let filter_file = load(b"filters.rec", &mut filters);

@@ -6,6 +6,7 @@ use libc::STDIN_FILENO;
 use libc::STDOUT_FILENO;
 use lines::LONGEST;
 use lines::write_line;
+use reply::BITMAP_ROOM;
 use reply::Reason;
 use reply::TEXT_BYTES;
 use reply::refuse;
@@ -24,7 +25,7 @@ const TOO_LONG: usize = TEXT_BYTES + 1;
 
 // A file that cannot be opened or read gives a single line.
 pub fn unreadable() {
-    let map = [0u8; 512];
+    let map = [0u8; BITMAP_ROOM];
     let mut out = [0u8; OUTPUT];
     let size = write_line(refuse(Reason::FileUnreadable, 0), &map, &mut out);
     io::write_all(STDOUT_FILENO, &out[..size]);

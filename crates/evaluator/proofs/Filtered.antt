@@ -1,4 +1,5 @@
--- Stars of a filter and a step, in either order: each filter is asked once, of all that the steps alone reach. Assumes nothing.
+-- Stars of a filter and a step, in either order: the filter is asked of what the star starts from, and then of all nodes at once. Assumes
+-- nothing.
 use Prim.Native.Nat.{ℕ, _<_}
 use mathlib.Core.Path.{_≡_, refl}
 use mathlib.Core.Logic.{_⊎_, inl, inr, ⊎-elim}
@@ -9,7 +10,8 @@ use Rattle.query.specs.Syntax.{Path}
 use Rattle.query.specs.Meaning.{Star, stop, step, reach}
 use Rattle.query.proofs.Closure.{star-keeps, star-map, star-more}
 use Rattle.sets.specs.Sets.{In, Holds, Image, Inside}
-use Rattle.evaluator.specs.Evaluator.{Then, Still, Sources}
+use Rattle.evaluator.proofs.Walks.{Then}
+use Rattle.evaluator.specs.Evaluator.{Still, Sources}
 use Rattle.evaluator.proofs.Images.{Stays, image-inside, star-stays}
 
 -- a step that starts from one of the sources

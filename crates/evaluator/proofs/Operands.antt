@@ -20,10 +20,11 @@ use Rattle.sets.specs.Sets.{Inside}
 use Rattle.tables.specs.Fields.{Fields}
 use Rattle.tables.specs.declared.entry.Entry.{Entry}
 use Rattle.steps.specs.declared.axis.Axis.{Axis}
+use Rattle.evaluator.proofs.Walks.{Then}
 use Rattle.evaluator.specs.declared.course.Course.{Course}
 use Rattle.evaluator.specs.declared.course.Course.the-variants.{Forwards, Backwards, Freely}
 use Rattle.evaluator.specs.Course.{facing, pathOf, firstOf, OfKind}
-use Rattle.evaluator.specs.Evaluator.{InOrder, Knowing, Within, Asked, Then, Still}
+use Rattle.evaluator.specs.Evaluator.{InOrder, Knowing, Within, Asked, Still}
 use Rattle.evaluator.proofs.Images.{Stays}
 use Rattle.evaluator.proofs.Walks.{walk-stays, stay-still, then-parts}
 

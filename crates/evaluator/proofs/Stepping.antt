@@ -12,8 +12,8 @@ use Rattle.steps.specs.Axis.{AlongAny}
 use Rattle.steps.specs.Star.{StepFrom}
 use Rattle.steps.specs.declared.axis.Axes.{Axes}
 use Rattle.steps.proofs.Axes.{any-node, any-end}
+use Rattle.evaluator.proofs.Walks.{Then}
 use Rattle.evaluator.specs.declared.ways.Way.the-variants.{Along}
-use Rattle.evaluator.specs.Evaluator.{Then}
 use Rattle.evaluator.specs.Ways.{Leads}
 use Rattle.evaluator.proofs.Images.{Stays, image-star}
 use Rattle.evaluator.proofs.Filtered.{From}

@@ -19,8 +19,12 @@ use Rattle.steps.specs.declared.axis.Axis.the-variants.{Child, Parent, Next, Pr
 use Rattle.evaluator.specs.declared.course.Course.{Course}
 use Rattle.evaluator.specs.declared.course.Course.the-variants.{Forwards, Backwards, Freely}
 use Rattle.evaluator.specs.Course.{facing, pathOf, backwards, freely, firstOf}
-use Rattle.evaluator.specs.Evaluator.{Then, Still}
+use Rattle.evaluator.specs.Evaluator.{Still}
 use Rattle.evaluator.proofs.Images.{Stays, image-self, image-stay, image-either, image-star-star}
+
+-- one relation and then another
+abbrev pub Then : (ℕ → ℕ → Type 0) → (ℕ → ℕ → Type 0) → ℕ → ℕ → Type 0
+Then R Q i j = (k : ℕ) × R i k × Q k j
 
 true≢false : ¬ (_≡_ {A = Bool} true false)
 true≢false e = let z : _≡_ {A = ℕ} 0 1 = cc in omega arith

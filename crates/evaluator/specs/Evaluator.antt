@@ -44,10 +44,6 @@ pub record Asked (roll table : Bytes) (s : Sort) (e : ℕ) (from : List ℕ) : T
   pub entry : Within table s e
   pub nodes-only : Inside (length (nodes roll)) from
 
--- one relation and then another
-abbrev pub Then : (ℕ → ℕ → Type 0) → (ℕ → ℕ → Type 0) → ℕ → ℕ → Type 0
-Then R Q i j = (k : ℕ) × R i k × Q k j
-
 -- the path stays where it is
 abbrev pub Still : Path → Type 0
 Still p = (t : Tree) (i j : ℕ) → reach t p i j → i ≡ j

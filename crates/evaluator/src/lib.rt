@@ -26,6 +26,7 @@ use kinds::PREVIOUS;
 use kinds::STAR;
 use kinds::STAY;
 use kinds::THEN;
+use reply::NODES;
 use roll::count;
 use sets::below;
 use sets::common;
@@ -135,7 +136,7 @@ fn star(
             let course = walk.course;
             let way = way_of(table, walk.entry, course, DEEP);
             match way {
-                Way::Along(axes) => closure(roll, links, axes, below(4096), from),
+                Way::Along(axes) => closure(roll, links, axes, below(NODES), from),
                 Way::Otherwise => by_rounds(roll, links, table, held, walk, from),
             }
         }

@@ -11,7 +11,7 @@ use Rattle.view.specs.Same.{SameOnView}
 use Rattle.view.proofs.Positions.{position-injective}
 use Rattle.theorem.proofs.Rewriting.{rewritten, rewrittenFilter}
 use Rattle.theorem.proofs.Induction.{paths-alike, filters-agree}
-use Rattle.theorem.proofs.Axes.{Placed, grounds}
+use Rattle.theorem.proofs.Axes.{Positioned, grounds}
 
 module _ {t : Tree} (o : InOrder t) {Seen : ℕ → Type 0} (dec : (i : ℕ) → Dec (Seen i)) (root : Seen 0)
     (vis : Filter) (right : (i : ℕ) → i < length t → holds t vis i ↔ Seen i) {v : Tree} (view : View t Seen v) where
@@ -20,7 +20,7 @@ module _ {t : Tree} (o : InOrder t) {Seen : ℕ → Type 0} (dec : (i : ℕ) →
   unfolding SameOnView
   faithful p i a j l x = (there, back)
     where
-      start : Placed t Seen i a
+      start : Positioned t Seen i a
       start = record { node = l; position = x }
 
       there : reach t (rewritten vis p) i j → (b : ℕ) × (j < length t) × Position Seen j b × reach v p a b
@@ -37,5 +37,5 @@ module _ {t : Tree} (o : InOrder t) {Seen : ℕ → Type 0} (dec : (i : ℕ) →
   pub filter-faithful : (f : Filter) {i a : ℕ} → i < length t → Position Seen i a → holds t (rewrittenFilter vis f) i ↔ holds v f a
   filter-faithful f {i} {a} l x =
       let both = filters-agree vis (grounds o dec root view vis right) f in
-      let start : Placed t Seen i a = record { node = l; position = x } in
+      let start : Positioned t Seen i a = record { node = l; position = x } in
       (both .forth .keep start, both .back .keep start)

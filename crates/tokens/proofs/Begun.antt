@@ -12,7 +12,7 @@ use Rattle.tokens.specs.declared.answer.Parsed.{Parsed}
 use Rattle.tokens.specs.declared.answer.Parsed.the-variants.{Got}
 use Rattle.tokens.specs.declared.kind.Sort.{Sort}
 use Rattle.tokens.specs.declared.kind.Sort.the-variants as sort
-use Rattle.tokens.specs.Reading.{Recorded, Follows, RoomAhead, joinedEntries, joinedSpare, chains, links}
+use Rattle.tokens.specs.Reading.{Entered, Follows, RoomAhead, joinedEntries, joinedSpare, chains, links}
 use Rattle.tokens.specs.Reading.{outerChain, innerChain, Joins, alone, both}
 use Rattle.tokens.proofs.Places.{inside}
 use Rattle.tokens.proofs.Answers.{Failed}
@@ -65,7 +65,7 @@ module _ (c : Chain) {k : ℕ} {text : Bytes} {at : ℕ} {before : Bytes} {n : �
   -- where a link was joined, there is room for the entry that joins it
   pub room-to-join : {next m : ℕ} {mid : Bytes} {x : Joined c} {to l : ℕ} {after : Bytes}
       → RoomAhead text at before n → Begun c k text at before n next m mid
-      → Recorded (joinedEntries c) (joinedSpare c) text next mid m x to l after → n < m → 6 * (l + 1) ≤ length before
+      → Entered (joinedEntries c) (joinedSpare c) text next mid m x to l after → n < m → 6 * (l + 1) ≤ length before
   room-to-join r first st s = absurd (omega arith)
   room-to-join r (further g j) st s =
       let room = r .room in

@@ -13,7 +13,7 @@ use Rattle.derivation.proofs.Parts.{Joined, join, joining}
 use Rattle.derivation.proofs.Rules.{Result, got, stopped, NotAt, GoesOn, starts, start-stops, joined, joined-stops, ends}
 use Rattle.tokens.specs.declared.answer.Parsed.{Parsed}
 use Rattle.tokens.specs.declared.answer.Parsed.the-variants.{Got}
-use Rattle.tokens.specs.Reading.{Line, one, Added, Recorded, Follows, follows, stops, mostOpen, joinedEntries, joinedKind, chains}
+use Rattle.tokens.specs.Reading.{Line, one, Added, Entered, Follows, follows, stops, mostOpen, joinedEntries, joinedKind, chains}
 use Rattle.tokens.specs.Reading.{links}
 use Rattle.tokens.proofs.Entries.{added-on}
 use Rattle.tokens.proofs.Places.{here, not-at, none-of, nor}
@@ -25,7 +25,7 @@ pub record Going (line : Line) (more : line .Thing → Bytes → Result (line .T
     (n next m : ℕ) (after : Bytes) : Type 0 where
   pub thing : line .Thing
   pub goes-on : (r : Result (line .Thing)) → more thing (drop next text) r → line .reads k (drop at text) r
-  pub stands : Recorded (line .written) (line .spare) text at before n thing next m after
+  pub stands : Entered (line .written) (line .spare) text at before n thing next m after
 
 -- no byte that joins is 0
 pub joint-seen : (c : Chain) → 0 < joining c

@@ -9,7 +9,7 @@ use Rattle.query.specs.Table.{Entries}
 use Rattle.derivation.proofs.Rules.{Stop, got, stopped}
 use Rattle.tokens.specs.declared.answer.Parsed.{Parsed}
 use Rattle.tokens.specs.declared.answer.Parsed.the-variants.{Got}
-use Rattle.tokens.specs.Reading.{Line, one, Added, Recorded, StopsAt, broken-at, deep-at, Follows, follows, stops, RoomAhead, placeOf}
+use Rattle.tokens.specs.Reading.{Line, one, Added, Entered, StopsAt, broken-at, deep-at, Follows, follows, stops, RoomAhead, placeOf}
 use Rattle.tokens.specs.Reading.{RoomBehind, Behind, behind, passed-on}
 use Rattle.tokens.proofs.Entries.{added-on}
 
@@ -30,7 +30,7 @@ stop-room t deep-at = tt
 -- something is read by the line from `at` up to `to`, and stands in the table
 abbrev pub Found : Line → ℕ → Bytes → ℕ → Bytes → ℕ → ℕ → ℕ → Bytes → Type 0
 Found line k text at before n to m after =
-    (x : line .Thing) × line .reads k (drop at text) (got x (drop to text)) × Recorded (line .written) (line .spare) text at before n x to m after
+    (x : line .Thing) × line .reads k (drop at text) (got x (drop to text)) × Entered (line .written) (line .spare) text at before n x to m after
 
 module _ {line : Line} {k : ℕ} {text : Bytes} {at : ℕ} {before after : Bytes} {n : ℕ} where
   -- an answer's place is in the text
@@ -136,7 +136,7 @@ ready-on r l = let s = r .room in record { within = omega arith; room = omega ar
 -- where a thing stands, the reader is ready behind one more byte
 pub ready-after : {A : Type 0} {written : ℕ → A → Entries} {spare : ℕ} {text : Bytes} {at : ℕ} {before : Bytes} {n : ℕ} {x : A}
     {to m : ℕ} {after : Bytes}
-    → RoomAhead text at before n → Recorded written spare text at before n x to m after → length after ≡ length before → to < length text
+    → RoomAhead text at before n → Entered written spare text at before n x to m after → length after ≡ length before → to < length text
     → RoomAhead text (to + 1) after m
 ready-after r st e l =
     let a = r .room in

@@ -40,7 +40,7 @@ pub record Added (before : Bytes) (n : ℕ) (es : Entries) (after : Bytes) : Typ
   pub front : take (6 * (n + length es)) after ≡ take (6 * n) before ++ entryBytes es
 
 -- x is read from `at` up to `to`, and its entries stand behind the n entries of the table, which now has m.
-pub record Recorded {A : Type 0} (written : ℕ → A → Entries) (spare : ℕ) (text : Bytes) (at : ℕ) (before : Bytes) (n : ℕ) (x : A)
+pub record Entered {A : Type 0} (written : ℕ → A → Entries) (spare : ℕ) (text : Bytes) (at : ℕ) (before : Bytes) (n : ℕ) (x : A)
     (to m : ℕ) (after : Bytes) : Type 0 where
   pub further : at < to
   pub some : n < m
@@ -57,7 +57,7 @@ pub data StopsAt : Parsed → Stop → ℕ → Type 0 where
 -- What reading from `at` with k brackets open comes to, where the table has n entries.
 pub data Follows (line : Line) (k : ℕ) (text : Bytes) (at : ℕ) (before : Bytes) (n : ℕ) : Parsed → Bytes → Type 0 where
   follows : {x : line .Thing} {to m : ℕ} {after : Bytes} → line .reads k (drop at text) (got x (drop to text))
-      → Recorded (line .written) (line .spare) text at before n x to m after → Follows line k text at before n (Got to m) after
+      → Entered (line .written) (line .spare) text at before n x to m after → Follows line k text at before n (Got to m) after
   stops : {p : Parsed} {s : Stop} {i : ℕ} {after : Bytes} → StopsAt p s i → line .reads k (drop at text) (stopped s (drop i text))
       → i ≤ length text
       → Follows line k text at before n p after

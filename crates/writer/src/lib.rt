@@ -2,7 +2,7 @@
 mod entry;
 // public for a wrong build of call 5 that writes the filter table by it: crate rewrite, must-fail edit annotation_rewritten
 pub mod moved;
-pub mod prelude;
+mod prelude;
 mod records;
 mod rows;
 
