@@ -42,6 +42,7 @@ pub enum Reason {
     TooManyOpen,
     TableTooLarge,
     FileUnreadable,
+    TextTooLong,
 }
 
 pub struct Refusal {
@@ -83,6 +84,7 @@ pub fn number_of(reason: Reason) -> u64
         Reason::TooManyOpen => 15,
         Reason::TableTooLarge => 16,
         Reason::FileUnreadable => 17,
+        Reason::TextTooLong => 18,
     }
 }
 

@@ -1,3 +1,4 @@
 pub mod Grammar
 pub mod Written
 pub mod Promise
+pub mod Print

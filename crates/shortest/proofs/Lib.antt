@@ -1,0 +1,10 @@
+pub mod Shown
+pub mod Best
+pub mod Texts
+pub mod Length
+pub mod Heights
+pub mod Queries
+pub mod Shallow
+pub mod Unique
+pub mod RoundTrip
+pub mod Tried

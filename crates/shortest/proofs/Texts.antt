@@ -1,0 +1,157 @@
+-- What is shown for a path is a text of it, where its labels are labels. Assumes nothing.
+use Prim.Native.Nat.{ℕ, zero, suc, _+_, _*_, _/_, _%_, _≤_, _<_}
+use native.Mathlib.Omega.{arith}
+use mathlib.Core.Path.{_≡_, refl, sym, subst}
+use mathlib.Core.Logic.{inl, inr}
+use mathlib.Core.Bool.{Bool, true, false, cond}
+use mathlib.Core.List.{[], _∷_, _++_}
+use lib.Dec.{leb, ltb}
+use borrow.Author.Tests.{ltb-true, ltb-false, leb-true, leb-false}
+use Rattle.reply.specs.Bytes.{Bytes}
+use Rattle.tree.specs.Tree.{Label}
+use Rattle.query.specs.Syntax.{Path, self, child, parent, next, previous, stay, then, either, star}
+use Rattle.query.specs.Syntax.{Filter, labelled, leads, always, never, not, and, or}
+use Rattle.text.specs.Grammar as grammar
+use Rattle.text.specs.Grammar.{LabelText, PathText, SequenceText, ItemText, AtomText, FilterText, ConjunctionText, TermText}
+use Rattle.text.specs.Print.{Fewest}
+use Rattle.shortest.proofs.Shown.{pathRank, filterRank, between, held, pathHeld, filterHeld, labelShown, pathShown, filterShown}
+use Rattle.shortest.proofs.Best.{Best, path-best, no-fewer}
+
+-- each label in a path, and in a filter, is a label
+abbrev mutual
+  pub PathLabels : Path → Type 0
+  PathLabels self = Unit {0}
+  PathLabels child = Unit {0}
+  PathLabels parent = Unit {0}
+  PathLabels next = Unit {0}
+  PathLabels previous = Unit {0}
+  PathLabels (stay f) = FilterLabels f
+  PathLabels (then p q) = PathLabels p × PathLabels q
+  PathLabels (either p q) = PathLabels p × PathLabels q
+  PathLabels (star p) = PathLabels p
+
+  pub FilterLabels : Filter → Type 0
+  FilterLabels (labelled l) = Label l
+  FilterLabels (leads p) = PathLabels p
+  FilterLabels always = Unit {0}
+  FilterLabels never = Unit {0}
+  FilterLabels (not f) = FilterLabels f
+  FilterLabels (and f g) = FilterLabels f × FilterLabels g
+  FilterLabels (or f g) = FilterLabels f × FilterLabels g
+
+-- a label's text
+label-text : (l : ℕ) → Label l → LabelText (labelShown l) l
+unfolding labelShown
+label-text l h = go (ltb l 10) refl
+  where
+    go : (x : Bool) → ltb l 10 ≡ x → LabelText (cond x ((48 + l) ∷ []) ((48 + l / 10) ∷ (48 + l % 10) ∷ [])) l
+    go true e = let low = ltb-true l 10 e in grammar.one-digit (h .least) (omega arith)
+    go false e =
+        let high = ltb-false l 10 e in
+        let two : LabelText ((48 + l / 10) ∷ (48 + l % 10) ∷ []) (10 * (l / 10) + l % 10) =
+        grammar.two-digits {d = l / 10} {e = l % 10} (omega arith) (omega arith) (omega (arith, h .most)) in
+        subst (λ (n : ℕ). LabelText ((48 + l / 10) ∷ (48 + l % 10) ∷ []) n) (omega arith) two
+
+-- Kinds of texts, the tightest last: a text of one is one of those before it, and brackets make the tightest of the loosest.
+module _ (X : ℕ → Bytes → Type 0) (looser : (rank : ℕ) (s : Bytes) → X (suc rank) s → X rank s) where
+  eased : (least rank : ℕ) → least ≤ rank → (s : Bytes) → X rank s → X least s
+  eased least zero l s x = subst (λ (n : ℕ). X n s) (omega arith) x
+  eased least (suc rank) l s x = go (eased least rank) (leb least rank) refl
+    where
+      go : (least ≤ rank → (s : Bytes) → X rank s → X least s) → (y : Bool) → leb least rank ≡ y → X least s
+      go more true e = more (leb-true least rank e) s (looser rank s x)
+      go more false e = let h = leb-false least rank e in subst (λ (n : ℕ). X n s) (omega arith) x
+
+  held-text : (o c top : ℕ) → ((s : Bytes) → X 0 s → X top (between o c s)) → (least rank : ℕ) → least ≤ top → (s : Bytes) → X rank s
+      → X least (held o c least rank s)
+  unfolding held
+  held-text o c top brackets least rank l s x = go (leb least rank) refl
+    where
+      go : (y : Bool) → leb least rank ≡ y → X least (cond y s (between o c s))
+      go true e = eased least rank (leb-true least rank e) s x
+      go false e = eased least top l _ (brackets s (eased 0 rank (omega arith) s x))
+
+-- the texts of a path, by rank
+abbrev PathAt : Path → ℕ → Bytes → Type 0
+PathAt p zero s = PathText s p
+PathAt p (suc zero) s = SequenceText s p
+PathAt p (suc (suc zero)) s = ItemText s p
+PathAt p (suc (suc (suc n))) s = AtomText s p
+
+looser-path : (p : Path) (rank : ℕ) (s : Bytes) → PathAt p (suc rank) s → PathAt p rank s
+looser-path p zero s x = grammar.one-sequence x
+looser-path p (suc zero) s x = grammar.one-item x
+looser-path p (suc (suc zero)) s x = grammar.an-atom x
+looser-path p (suc (suc (suc n))) s x = x
+
+-- and of a filter
+abbrev FilterAt : Filter → ℕ → Bytes → Type 0
+FilterAt f zero s = FilterText s f
+FilterAt f (suc zero) s = ConjunctionText s f
+FilterAt f (suc (suc n)) s = TermText s f
+
+looser-filter : (f : Filter) (rank : ℕ) (s : Bytes) → FilterAt f (suc rank) s → FilterAt f rank s
+looser-filter f zero s x = grammar.one-conjunction x
+looser-filter f (suc zero) s x = grammar.one-term x
+looser-filter f (suc (suc n)) s x = x
+
+-- with brackets where they are needed, and with none
+module _ (p : Path) (x : PathAt p (pathRank p) (pathShown p)) where
+  path-held : (least : ℕ) → least ≤ 3 → PathAt p least (pathHeld least p (pathShown p))
+  unfolding pathHeld between
+  path-held least l = held-text (PathAt p) (looser-path p) 40 41 3 (λ s y. grammar.round y) least (pathRank p) l (pathShown p) x
+
+  path-bare : PathText (pathShown p) p
+  path-bare = eased (PathAt p) (looser-path p) 0 (pathRank p) (omega arith) (pathShown p) x
+
+module _ (f : Filter) (x : FilterAt f (filterRank f) (filterShown f)) where
+  filter-held : (least : ℕ) → least ≤ 2 → FilterAt f least (filterHeld least f (filterShown f))
+  unfolding filterHeld between
+  filter-held least l = held-text (FilterAt f) (looser-filter f) 123 125 2 (λ s y. grammar.curly y) least (filterRank f) l (filterShown f) x
+
+  filter-bare : FilterText (filterShown f) f
+  filter-bare = eased (FilterAt f) (looser-filter f) 0 (filterRank f) (omega arith) (filterShown f) x
+
+-- what is shown is a text of its rank
+mutual
+  unfolding pathShown filterShown pathRank filterRank between
+
+  path-text : (p : Path) → PathLabels p → PathAt p (pathRank p) (pathShown p)
+  path-text self h = grammar.dot
+  path-text child h = grammar.letter-v
+  path-text parent h = grammar.caret
+  path-text next h = grammar.greater
+  path-text previous h = grammar.less
+  path-text (stay f) h = grammar.square (filter-bare f (filter-text f h))
+  path-text (then p q) h =
+      grammar.slash (path-held p (path-text p (h .0)) 1 (omega arith)) (path-held q (path-text q (h .1)) 2 (omega arith))
+  path-text (either p q) h =
+      grammar.bar (path-bare p (path-text p (h .0))) (path-held q (path-text q (h .1)) 1 (omega arith))
+  path-text (star p) h = grammar.starred (path-held p (path-text p h) 2 (omega arith))
+
+  filter-text : (f : Filter) → FilterLabels f → FilterAt f (filterRank f) (filterShown f)
+  filter-text (labelled l) h = grammar.hash (label-text l h)
+  filter-text (leads p) h = grammar.a-path (path-bare p (path-text p h))
+  filter-text always h = grammar.letter-t
+  filter-text never h = grammar.letter-f
+  filter-text (not f) h = grammar.exclamation (filter-held f (filter-text f h) 2 (omega arith))
+  filter-text (and f g) h =
+      grammar.ampersand (filter-held f (filter-text f (h .0)) 1 (omega arith)) (filter-held g (filter-text g (h .1)) 2 (omega arith))
+  filter-text (or f g) h =
+      grammar.plus (filter-bare f (filter-text f (h .0))) (filter-held g (filter-text g (h .1)) 1 (omega arith))
+
+-- A path with labels has a text with the fewest brackets,
+pub shown-fewest : (p : Path) → PathLabels p → Fewest p (pathShown p)
+shown-fewest p h =
+    record {
+      of = path-bare p (path-text p h);
+      fewest = λ other x. no-fewer (path-best x);
+    }
+
+-- and just one.
+pub fewest-shown : {p : Path} {s : Bytes} → PathLabels p → Fewest p s → s ≡ pathShown p
+fewest-shown {p} {s} h x = go (path-best (x .of))
+  where
+    go : Best s (pathShown p) → s ≡ pathShown p
+    go (inl e) = e
+    go (inr l) = let k = x .fewest (pathShown p) (shown-fewest p h .of) in absurd (omega arith)
