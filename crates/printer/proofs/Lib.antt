@@ -1,0 +1,3 @@
+pub mod Going
+pub mod Made
+pub mod Calling

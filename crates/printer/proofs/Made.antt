@@ -1,0 +1,241 @@
+-- The text of an entry is made of those of its operands, by its kind. Assumes nothing.
+use Prim.Native.Nat.{ℕ, _+_, _≤_, _<_}
+use native.Mathlib.Omega.{arith}
+use mathlib.Core.Path.{_≡_, refl, sym, ap, ap₂, _∙_}
+use mathlib.Core.Bool.{true, cond}
+use mathlib.Core.List.{List, [], _∷_, _++_}
+use mathlib.Core.Option.{Option, none, some}
+use borrow.Author.Tests.{le-leb, lt-leb}
+use lib.ListN.{length, getD, take}
+use Rattle.reply.specs.Bytes.{Bytes}
+use Rattle.query.specs.Syntax as syntax
+use Rattle.query.specs.Syntax.{Path, Filter}
+use Rattle.tree.specs.Tree.{Label}
+use Rattle.query.specs.Kind.{Sort, path, filter, unused, of, labelled, Row, kinds, find, rowOf}
+use Rattle.query.specs.Table.{Entry, Entries, entries, entryAt, rowAt, HasSort, OperandField, EntryRight, Meant, a-path, a-filter}
+use Rattle.query.specs.Table.{LabelField, thePath, theFilter, pathIn, filterIn, build, mean, meanings, pathAt, filterAt}
+use Rattle.query.proofs.Rows.{Each, _&_, no-more, row-found}
+use Rattle.query.proofs.Tables.{read-at}
+use Rattle.query.proofs.Standing as standing
+use Rattle.shortest.proofs.Shown.{pathRank, filterRank, between, held, pathHeld, filterHeld, labelShown, pathShown, filterShown}
+use Rattle.printer.specs.Printing.{meantShown, meantHeld, meantAt, entryShown, entryHeld, symbols, ranks, openingFor, closingFor}
+
+-- what an entry of a sort stands for
+abbrev asMeant : Sort → Entries → ℕ → Meant
+asMeant path es i = a-path (pathAt es i)
+asMeant filter es i = a-filter (filterAt es i)
+
+-- what stands for a path, taken as one
+abbrev Sorted : Sort → Meant → Type 0
+Sorted path x = x ≡ a-path (thePath x)
+Sorted filter x = x ≡ a-filter (theFilter x)
+
+-- a kind builds what has its sort
+build-sorted : (before : List Meant) (e : Entry) {row : Row} → rowOf (e .kind) ≡ some row → Sorted (row .sort) (build before (row .kind) e)
+unfolding build kinds thePath theFilter
+build-sorted before e listed =
+    row-found (λ row. Sorted (row .sort) (build before (row .kind) e))
+    (refl & refl & refl & refl & refl & refl & refl & refl & refl & refl & refl & refl & refl & refl & refl & refl & no-more) listed .0
+
+-- where nothing is asked for, there are no brackets
+bare : (o c rank : ℕ) (s : Bytes) → held o c 0 rank s ≡ s
+unfolding held
+bare o c rank s = rw (le-leb 0 rank (omega arith))
+
+module _ (es : Entries) (i : ℕ) (within : i < length es) where
+  -- an entry of a sort stands for something of the sort
+  sorted : (s : Sort) → HasSort es i s → Sorted s (meantAt es i)
+  unfolding meanings mean rowAt entryAt
+  sorted s h =
+      let blank : Entry = record { kind = 0; label = 0; left = 0; right = 0 } in
+      rw (← h .sort, read-at mean es i (a-path syntax.self) blank within, h .listed, mean) (build-sorted _ (entryAt es i) (h .listed))
+
+-- the text of what has a sort, in brackets if it is looser than asked for
+abbrev heldAs : Sort → ℕ → Entries → ℕ → Bytes
+heldAs path least es i = pathHeld least (pathAt es i) (pathShown (pathAt es i))
+heldAs filter least es i = filterHeld least (filterAt es i) (filterShown (filterAt es i))
+
+-- and with none around it
+abbrev shownAs : Sort → Entries → ℕ → Bytes
+shownAs path es i = pathShown (pathAt es i)
+shownAs filter es i = filterShown (filterAt es i)
+
+module _ (es : Entries) (i : ℕ) (within : i < length es) where
+  pub held-as : (s : Sort) → HasSort es i s → (least : ℕ) → entryHeld least es i ≡ heldAs s least es i
+  unfolding entryHeld pathAt pathIn filterAt filterIn
+  held-as path h least = ap (meantHeld least) (sorted es i within path h)
+  held-as filter h least = ap (meantHeld least) (sorted es i within filter h)
+
+  pub shown-as : (s : Sort) → HasSort es i s → entryShown es i ≡ shownAs s es i
+  unfolding entryShown pathAt pathIn filterAt filterIn
+  shown-as path h = ap meantShown (sorted es i within path h)
+  shown-as filter h = ap meantShown (sorted es i within filter h)
+
+-- what a kind makes is held as its number says
+abbrev HeldBy : List Meant → Entry → ℕ → Row → Type 0
+HeldBy before e least row =
+    meantHeld least (build before (row .kind) e)
+    ≡ held (openingFor (row .number)) (closingFor (row .number)) least (getD ranks (row .number) 0) (meantShown (build before (row .kind) e))
+
+built-held : (before : List Meant) (e : Entry) (least : ℕ) → Each (HeldBy before e least) kinds
+unfolding build kinds pathHeld filterHeld pathRank filterRank
+built-held before e least =
+    refl & refl & refl & refl & refl & refl & refl & refl & refl & refl & refl & refl & refl & refl & refl & refl & no-more
+
+-- An entry e of a table in order, of a listed kind.
+module _ (es : Entries) (order : (i : ℕ) → i < length es → EntryRight es i) (e : ℕ) (within : e < length es) where
+  abbrev own : Entry
+  own = entryAt es e
+
+  -- it has its kind's sort
+  of-sort : (kind : ℕ) {row : Row} → rowOf kind ≡ some row → own .kind ≡ kind → HasSort es e (row .sort)
+  unfolding rowAt
+  of-sort kind {row} listed is = record { row = row; listed = ap rowOf is ∙ listed; sort = refl }
+
+  -- an operand's text
+  operand-held : (s : Sort) (y : ℕ) → OperandField es e (of s) y → (least : ℕ) → entryHeld least es y ≡ heldAs s least es y
+  unfolding OperandField
+  operand-held s y f least = held-as es y (omega (arith, f .0)) s (f .1) least
+
+  pub stay-shown : own .kind ≡ 6 → (own .left < e) × (entryShown es e ≡ 91 ∷ entryHeld 0 es (own .left) ++ 93 ∷ [])
+  unfolding kinds find pathShown between OperandField filterHeld
+  stay-shown is =
+      let (f, same) = standing.stay-stands es e within own refl (order e within) is in
+      (f .0, shown-as es e within path (of-sort 6 refl is) ∙ rw (same, operand-held filter (own .left) f 0, bare))
+
+  pub star-shown : own .kind ≡ 9 → (own .left < e) × (entryShown es e ≡ entryHeld 2 es (own .left) ++ 42 ∷ [])
+  unfolding kinds find pathShown OperandField
+  star-shown is =
+      let (f, same) = standing.star-stands es e within own refl (order e within) is in
+      (f .0, shown-as es e within path (of-sort 9 refl is) ∙ rw (same, operand-held path (own .left) f 2))
+
+  pub leads-shown : own .kind ≡ 17 → (own .left < e) × (entryShown es e ≡ entryHeld 0 es (own .left))
+  unfolding kinds find filterShown OperandField pathHeld
+  leads-shown is =
+      let (f, same) = standing.leads-stands es e within own refl (order e within) is in
+      (f .0, shown-as es e within filter (of-sort 17 refl is) ∙ rw (same, operand-held path (own .left) f 0, bare))
+
+  pub not-shown : own .kind ≡ 20 → (own .left < e) × (entryShown es e ≡ 33 ∷ entryHeld 2 es (own .left))
+  unfolding kinds find filterShown OperandField
+  not-shown is =
+      let (f, same) = standing.not-stands es e within own refl (order e within) is in
+      (f .0, shown-as es e within filter (of-sort 20 refl is) ∙ rw (same, operand-held filter (own .left) f 2))
+
+  -- two operands, joined by a byte: the right one is held one rank tighter
+  abbrev pub Joined : ℕ → ℕ → Type 0
+  Joined rank byte =
+      (own .left < e) × (own .right < e)
+      × (entryShown es e ≡ entryHeld rank es (own .left) ++ byte ∷ entryHeld (rank + 1) es (own .right))
+
+  then-shown : own .kind ≡ 7 → Joined 1 47
+  unfolding kinds find pathShown OperandField
+  then-shown is =
+      let ((f, g), same) = standing.then-stands es e within own refl (order e within) is in
+      (f .0, g .0, shown-as es e within path (of-sort 7 refl is) ∙ rw (same, operand-held path (own .left) f 1, operand-held path (own .right) g 2))
+
+  either-shown : own .kind ≡ 8 → Joined 0 124
+  unfolding kinds find pathShown OperandField pathHeld
+  either-shown is =
+      let ((f, g), same) = standing.either-stands es e within own refl (order e within) is in
+      (f .0, g .0, shown-as es e within path (of-sort 8 refl is) ∙ rw (same, operand-held path (own .left) f 0, operand-held path (own .right) g 1, bare))
+
+  and-shown : own .kind ≡ 21 → Joined 1 38
+  unfolding kinds find filterShown OperandField
+  and-shown is =
+      let ((f, g), same) = standing.and-stands es e within own refl (order e within) is in
+      (f .0, g .0, shown-as es e within filter (of-sort 21 refl is) ∙ rw (same, operand-held filter (own .left) f 1, operand-held filter (own .right) g 2))
+
+  or-shown : own .kind ≡ 22 → Joined 0 43
+  unfolding kinds find filterShown OperandField filterHeld
+  or-shown is =
+      let ((f, g), same) = standing.or-stands es e within own refl (order e within) is in
+      (f .0, g .0, shown-as es e within filter (of-sort 22 refl is) ∙ rw (same, operand-held filter (own .left) f 0, operand-held filter (own .right) g 1, bare))
+
+  -- by its rank and its symbol: only the kinds that join two are so loose
+  pub joined-shown : getD ranks (own .kind) 0 < 2 → Joined (getD ranks (own .kind) 0) (getD symbols (own .kind) 0)
+  unfolding kinds rowAt
+  joined-shown l =
+      let (joins, number) =
+      row-found (λ row. row .number ≡ own .kind → getD ranks (row .number) 0 < 2 → Joined (getD ranks (row .number) 0) (getD symbols (row .number) 0)) (
+      (λ q l. absurd (omega arith))
+      & (λ q l. absurd (omega arith))
+      & (λ q l. absurd (omega arith))
+      & (λ q l. absurd (omega arith))
+      & (λ q l. absurd (omega arith))
+      & (λ q l. absurd (omega arith))
+      & (λ q l. then-shown (sym q))
+      & (λ q l. either-shown (sym q))
+      & (λ q l. absurd (omega arith))
+      & (λ q l. absurd (omega arith))
+      & (λ q l. absurd (omega arith))
+      & (λ q l. absurd (omega arith))
+      & (λ q l. absurd (omega arith))
+      & (λ q l. absurd (omega arith))
+      & (λ q l. and-shown (sym q))
+      & (λ q l. or-shown (sym q))
+      & no-more
+      ) (order e within .listed) in
+      rw number at (joins number (rw number l))
+
+  pub label-shown : own .kind ≡ 16 → (own .label ≤ 64) × (entryShown es e ≡ 35 ∷ labelShown (own .label))
+  unfolding kinds find filterShown build theFilter LabelField rowAt
+  label-shown is =
+      let r = order e within in
+      let row : Row = record { number = 16; kind = labelled; sort = filter; left = unused; right = unused; label = true } in
+      let same : some (r .row) ≡ some row = sym (r .listed) ∙ ap rowOf is in
+      let same-row : r .row ≡ row = cc in
+      let label : Label (own .label) = rw same-row at (r .label) in
+      (label .most, shown-as es e within filter (of-sort 16 refl is) ∙ ap filterShown (standing.filter-stands es e within own refl 16 _ refl is))
+
+  -- A kind that takes neither operands nor a label is one byte: by the rows of the kinds' list, where every other row is left out.
+  pub leaf-shown : 2 ≤ getD ranks (own .kind) 0 → ¬ (own .kind ≡ 6) → ¬ (own .kind ≡ 9) → ¬ (own .kind ≡ 16) → ¬ (own .kind ≡ 17)
+      → ¬ (own .kind ≡ 20) → entryShown es e ≡ getD symbols (own .kind) 0 ∷ []
+  unfolding entryShown meanings mean rowAt entryAt build kinds pathShown filterShown
+  leaf-shown tight stay star label leads not =
+      let r = order e within in
+      let blank : Entry = record { kind = 0; label = 0; left = 0; right = 0 } in
+      let before : List Meant = take e (meanings es) in
+      let loose : (n : ℕ) → getD ranks n 0 < 2 → ¬ (n ≡ own .kind) = λ n l q. let same = ap (λ (k : ℕ). getD ranks k 0) q in omega arith in
+      let (same, number) =
+      row-found (λ row. row .number ≡ own .kind → meantShown (build before (row .kind) own) ≡ getD symbols (row .number) 0 ∷ []) (
+      (λ q. refl)
+      & (λ q. refl)
+      & (λ q. refl)
+      & (λ q. refl)
+      & (λ q. refl)
+      & (λ q. absurd (stay (sym q)))
+      & (λ q. absurd (loose 7 (omega arith) q))
+      & (λ q. absurd (loose 8 (omega arith) q))
+      & (λ q. absurd (star (sym q)))
+      & (λ q. absurd (label (sym q)))
+      & (λ q. absurd (leads (sym q)))
+      & (λ q. refl)
+      & (λ q. refl)
+      & (λ q. absurd (not (sym q)))
+      & (λ q. absurd (loose 21 (omega arith) q))
+      & (λ q. absurd (loose 22 (omega arith) q))
+      & no-more
+      ) (r .listed) in
+      rw (read-at mean es e (a-path syntax.self) blank within, r .listed, mean) (rw number at (same number))
+
+  -- in brackets, by its kind: where it is looser than asked for
+  pub held-by : (least : ℕ)
+      → entryHeld least es e ≡ held (openingFor (own .kind)) (closingFor (own .kind)) least (getD ranks (own .kind) 0) (entryShown es e)
+  unfolding entryHeld entryShown meanings mean rowAt entryAt
+  held-by least =
+      let r = order e within in
+      let blank : Entry = record { kind = 0; label = 0; left = 0; right = 0 } in
+      let (same, number) = row-found (HeldBy (take e (meanings es)) own least) (built-held _ own least) (r .listed) in
+      rw (read-at mean es e (a-path syntax.self) blank within, r .listed, mean) (rw number at same)
+
+  module _ (least : ℕ) where
+    -- it is tight enough
+    pub held-bare : least ≤ getD ranks (own .kind) 0 → entryHeld least es e ≡ entryShown es e
+    unfolding held
+    held-bare l = held-by least ∙ rw (le-leb least (getD ranks (own .kind) 0) l)
+
+    -- it is too loose
+    pub held-between : getD ranks (own .kind) 0 < least
+        → entryHeld least es e ≡ openingFor (own .kind) ∷ entryShown es e ++ closingFor (own .kind) ∷ []
+    unfolding held between
+    held-between l = held-by least ∙ rw (lt-leb least (getD ranks (own .kind) 0) l)

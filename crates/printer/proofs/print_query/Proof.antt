@@ -1,0 +1,115 @@
+-- `print_query`: the room, the check of the table, and the text of its last entry, which fits or does not. Assumes nothing.
+use Prim.Native.Nat.{ℕ, _≤_}
+use native.Mathlib.Omega.{arith}
+use mathlib.Core.Path.{_≡_, sym}
+use borrow.Author.Needs.{needs}
+use denote.Ref.{now}
+use lib.ListN.{length}
+use lib.Seq.{length-take-le}
+use Rattle.query.specs.Table.{entries}
+use Rattle.query.specs.Fault.{curators, Query}
+use Rattle.printer.proofs.Calling.{query-counted, too-short, refused-table, last-within, Fits, fits, printed, not-printed, front-copied}
+use Rattle.printer.proofs.print_query.Statement.{statement}
+use Rattle.printer.proofs.print_query.Tie as tie
+
+-- The table is a query, of so many entries.
+checked : (c : tie.After-checked) → let s = c .before .before .before .before .before .before in
+    Query curators (now (s .args .query)) × (c .checked .given .0 .0 ≡ length (entries (now (s .args .query))))
+checked c = query-counted (c .checked .given .1) (c .before .before .check-query .ensures)
+
+-- Its text is shown, and fits.
+held : (c : tie.After-end) → let shown = c .before .before in
+    let (query, count) = checked (shown .before .before .before) in
+    Fits query (rw count at (shown .show .ensures)) (c .end .given .0 .0)
+held c =
+    let shown = c .before .before in
+    let (query, count) = checked (shown .before .before .before) in
+    fits query (rw count at (shown .show .ensures)) (c .end .given .1)
+
+refuse-requires : tie.Need-refuse-requires
+refuse-requires c κs = search needs
+
+returns : tie.Need-returns
+returns c = too-short _ _ (search needs) (c .refuse .ensures)
+
+check-query-requires : tie.Need-check-query-requires
+check-query-requires c κs = search needs
+
+enum-known-checked : tie.Need-enum-known-checked
+enum-known-checked c = search needs
+
+enum-told : tie.Need-enum-told
+enum-told c = search needs
+
+returns-2 : tie.Need-returns-2
+returns-2 c =
+    let check = c .before .before in
+    refused-table _ _ (check .check-query .result) (c .before .match .keys2) (check .check-query .ensures) (search needs)
+
+sub-show : tie.Need-sub-show
+sub-show c = let (query, count) = checked (c .before) in omega (arith, last-within query)
+
+show-requires : tie.Need-show-requires
+show-requires c κs =
+    let (query, count) = checked (c .before .before) in
+    (λ i l. query .entry i l .right, omega (arith, last-within query, count))
+
+enum-known-end : tie.Need-enum-known-end
+enum-known-end c = search needs
+
+array-share-prefix-text : tie.Need-array-share-prefix-text
+array-share-prefix-text c = held (c .before) .inside
+
+slice-aggregate-copy : tie.Need-slice-aggregate-copy
+slice-aggregate-copy c = sym (length-take-le _ _ (held (c .before .before) .inside))
+
+copy-requires : tie.Need-copy-requires
+copy-requires c κs =
+    let fit = held (c .before .before .before) in
+    rw (length-take-le _ _ (fit .inside)) (omega (arith, fit .most))
+
+enum-told-2 : tie.Need-enum-told-2
+enum-told-2 c = search needs
+
+refuse-requires-2 : tie.Need-refuse-requires-2
+refuse-requires-2 c κs = search needs
+
+same-length : tie.Need-same-length
+same-length c = search needs
+
+returns-3 : tie.Need-returns-3
+returns-3 c =
+    let copied = c .before .before in
+    let ended = copied .before .before .before .before in
+    let shown = ended .before .before in
+    let (query, count) = checked (shown .before .before .before) in
+    let fit = held ended in
+    printed query (rw count at (shown .show .ensures)) _ _ fit (search needs) (front-copied _ _ _ (fit .inside) (copied .copy .ensures .1))
+
+returns-4 : tie.Need-returns-4
+returns-4 c =
+    let shown = c .before .before .before in
+    let (query, count) = checked (shown .before .before .before) in
+    not-printed query (rw count at (shown .show .ensures)) _ (c .before .enum-told2 .given .1) (search needs) (c .refuse2 .ensures)
+
+pub print-query-spec : {M : Type 1} → statement M
+print-query-spec =
+    tie.close
+    (tie.spec
+    refuse-requires
+    returns
+    check-query-requires
+    enum-known-checked
+    enum-told
+    returns-2
+    sub-show
+    show-requires
+    enum-known-end
+    array-share-prefix-text
+    slice-aggregate-copy
+    copy-requires
+    enum-told-2
+    refuse-requires-2
+    same-length
+    returns-3
+    returns-4)

@@ -1,0 +1,69 @@
+// The text of an entry, which is made of those of its operands. The two functions call each other, and the entry number falls.
+use crate::spot::Spot;
+use crate::spot::put;
+use crate::symbols::closing;
+use crate::symbols::opening;
+use crate::symbols::put_label;
+use crate::symbols::rank;
+use crate::symbols::symbol;
+use tables::entry_at;
+use tables::kind_at;
+ghost use Prim.Native.Nat.{_<_};
+ghost use lib.ListN.{length};
+ghost use Rattle.query.specs.Table.{entries};
+ghost use Rattle.printer.specs.Printing.{InOrder, Goes, entryShown, entryHeld};
+
+// The text of entry e with no brackets around it.
+pub(crate) fn show(table: &[u8], e: usize, out: &mut [u8; 1024], spot: Spot) -> Spot
+    requires { ⌜ InOrder (now table) × (e < length (entries (now table))) ⌝ }
+    ensures { λ r. ⌜ Goes (entryShown (entries (now (table .entry))) e) (now (out .entry)) spot r (now (out .exit)) ⌝ }
+{
+    let entry = entry_at(table, e);
+    let kind = entry.kind;
+    let left = entry.left;
+    let own = rank(kind);
+    if own < 2 {
+        let first = hold(table, left, own, out, spot);
+        let joined = put(out, first, symbol(kind));
+        return hold(table, entry.right, own + 1, out, joined);
+    }
+    match kind {
+        6 => {
+            let opened = put(out, spot, b'[');
+            let inside = hold(table, left, 0, out, opened);
+            put(out, inside, b']')
+        }
+        9 => {
+            let item = hold(table, left, 2, out, spot);
+            put(out, item, symbol(kind))
+        }
+        16 => {
+            let hash = put(out, spot, symbol(kind));
+            put_label(out, hash, entry.label)
+        }
+        17 => hold(table, left, 0, out, spot),
+        20 => {
+            let not = put(out, spot, symbol(kind));
+            hold(table, left, 2, out, not)
+        }
+        _ => put(out, spot, symbol(kind)),
+    }
+}
+
+// The text of entry e where at least a rank is asked for: in brackets if it is joined more loosely. A text that is full already is left
+// alone, so that no entry is unfolded for nothing.
+fn hold(table: &[u8], e: usize, least: usize, out: &mut [u8; 1024], spot: Spot) -> Spot
+    requires { ⌜ InOrder (now table) × (e < length (entries (now table))) ⌝ }
+    ensures { λ r. ⌜ Goes (entryHeld least (entries (now (table .entry))) e) (now (out .entry)) spot r (now (out .exit)) ⌝ }
+{
+    let Spot::At(_) = spot else {
+        return Spot::Full;
+    };
+    let kind = kind_at(table, e);
+    if least <= rank(kind) {
+        return show(table, e, out, spot);
+    }
+    let opened = put(out, spot, opening(kind));
+    let inside = show(table, e, out, opened);
+    put(out, inside, closing(kind))
+}
