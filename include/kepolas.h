@@ -37,6 +37,7 @@ extern "C" {
 #define KEPOLAS_TABLE_ROOM 1536     /* call 2 */
 #define KEPOLAS_BITMAP_ROOM 512     /* calls 3 and 6: node k is the bit 1 << (k % 8) of byte k / 8 */
 #define KEPOLAS_REWRITTEN_ROOM 6144 /* call 5 */
+#define KEPOLAS_TEXT_ROOM 1024      /* printing */
 
 /* Why a call refuses, and what its place is; where none is named, it is 0. */
 enum kepolas_reason {
@@ -56,7 +57,8 @@ enum kepolas_reason {
     KEPOLAS_NOT_IN_GRAMMAR = 14,    /* text not in the grammar: the first byte that no text goes on with, or the text's length */
     KEPOLAS_TOO_MANY_OPEN = 15,     /* a bracket is opened while 32 are open: that byte */
     KEPOLAS_TABLE_TOO_LARGE = 16,   /* text in the grammar, but its table passes 256 entries or height 32 */
-    KEPOLAS_FILE_UNREADABLE = 17    /* the program alone: a file cannot be read. No call returns it */
+    KEPOLAS_FILE_UNREADABLE = 17,   /* the program alone: a file cannot be read. No call returns it */
+    KEPOLAS_TEXT_TOO_LONG = 18      /* the text to be printed is longer than 1,024 bytes */
 };
 
 /* Call 1: checks a roll. Counts its nodes. */
@@ -85,6 +87,9 @@ uint64_t kepolas_curators_answer(const uint8_t *roll, size_t roll_len, const uin
 /* Call 7: the run of record k, its own bytes and those of all its descendants: the bytes of the roll from start up to end, which is not
  * among them. A bad roll or a record that is not in it gives 0 and 0. */
 void kepolas_run_of(const uint8_t *roll, size_t roll_len, size_t k, size_t *start, size_t *end);
+
+/* Prints a curator's query table as text, with the fewest brackets that keep its grouping. Counts the bytes written. */
+uint64_t kepolas_print_query(const uint8_t *query, size_t query_len, uint8_t *room, size_t room_len, size_t *told);
 
 #ifdef __cplusplus
 }

@@ -40,6 +40,8 @@ pub mod rooms {
     pub const BITMAP: usize = 512;
     /// [`rewrite`](crate::rewrite): 1,024 entries of 6 bytes.
     pub const REWRITTEN: usize = 6_144;
+    /// [`print_query`](crate::print_query): the longest text that is read.
+    pub const TEXT: usize = 1_024;
 }
 
 /// What a call says that returned a number, 0 for no refusal, and told the count or the place.
@@ -278,4 +280,30 @@ pub fn run_of(roll: &[u8], record: usize) -> &[u8] {
 /// ```
 pub fn positions(bitmap: &[u8]) -> impl Iterator<Item = usize> + '_ {
     (0..8 * bitmap.len()).filter(|k| bitmap[k / 8] >> (k % 8) & 1 == 1)
+}
+
+/// Prints a curator's query table (to 256 entries, height 32) as text, with the fewest brackets that keep its grouping, and gives the
+/// number of bytes. Bytes of the room behind them stay as they were. A table that [`read_text`] wrote is always printed, and its text is
+/// read as the same bytes.
+///
+/// Refuses with [`ShortRoom`](Reason::ShortRoom) where the room is shorter than [`rooms::TEXT`]; then with
+/// [`QueryTable`](Reason::QueryTable) for the query's length, for its lowest entry that is not in order with
+/// [`EntryMalformed`](Reason::EntryMalformed) or [`EntryHeight`](Reason::EntryHeight), and with `QueryTable` where its last entry is no
+/// path; then with [`TextTooLong`](Reason::TextTooLong) where the text is longer than 1,024 bytes. A refused call changes no byte of the
+/// room.
+///
+/// ```
+/// use kepolas::{print_query, read_text, rooms};
+/// let mut table = [0; rooms::TABLE];
+/// let entries = read_text(b"((v))/(v|^)", &mut table).unwrap();
+/// let mut room = [0; rooms::TEXT];
+/// let bytes = print_query(&table[..6 * entries], &mut room).unwrap();
+/// assert_eq!(&room[..bytes], b"v/(v|^)");
+/// ```
+pub fn print_query(query: &[u8], room: &mut [u8]) -> Result<usize, Refusal> {
+    let mut told = 0;
+    // SAFETY: each slice is good for its length; the room and `told`, which are written, overlap nothing.
+    let number =
+        unsafe { calls::kepolas_print_query(query.as_ptr(), query.len(), room.as_mut_ptr(), room.len(), &mut told) };
+    heard(number, told)
 }

@@ -42,10 +42,12 @@ pub enum Reason {
     TableTooLarge = 16,
     /// 17: a file cannot be read. The program alone says so; no call does.
     FileUnreadable = 17,
+    /// 18: the text to be printed is longer than 1,024 bytes.
+    TextTooLong = 18,
 }
 
 /// All reasons, in the order of their numbers.
-const ALL: [Reason; 17] = [
+const ALL: [Reason; 18] = [
     Reason::ShortRoom,
     Reason::RollLength,
     Reason::NodeLabel,
@@ -63,10 +65,11 @@ const ALL: [Reason; 17] = [
     Reason::TooManyOpen,
     Reason::TableTooLarge,
     Reason::FileUnreadable,
+    Reason::TextTooLong,
 ];
 
 impl Reason {
-    /// The number in the list of refusals, 1 to 17.
+    /// The number in the list of refusals, 1 to 18.
     pub fn number(self) -> u8 {
         self as u8
     }
@@ -97,10 +100,11 @@ impl Reason {
             Reason::TooManyOpen => "bracket opened while 32 are open",
             Reason::TableTooLarge => "text's table passes 256 entries or height 32",
             Reason::FileUnreadable => "file cannot be read",
+            Reason::TextTooLong => "printed text longer than 1,024 bytes",
         }
     }
 
-    /// The reason that has a number; none has 0 or a number above 17.
+    /// The reason that has a number; none has 0 or a number above 18.
     ///
     /// ```
     /// use kepolas::Reason;

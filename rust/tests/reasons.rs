@@ -36,14 +36,14 @@ fn reasons(style: impl Fn(&str) -> String) -> Vec<(String, u8)> {
 #[test]
 fn the_reasons_are_those_of_the_proved_code_and_of_the_header() {
     let numbers: Vec<u8> = reasons(shouted).into_iter().map(|(_, number)| number).collect();
-    assert_eq!(numbers, (1..=17).collect::<Vec<u8>>());
+    assert_eq!(numbers, (1..=18).collect::<Vec<u8>>());
     assert_eq!(reasons(str::to_string), listed(PROVED, "Reason::", " => "));
     assert_eq!(reasons(shouted), listed(HEADER, "KEPOLAS_", " = "));
 }
 
 #[test]
 fn the_rooms_are_those_of_the_header() {
-    let rooms = [("TABLE", rooms::TABLE), ("BITMAP", rooms::BITMAP), ("REWRITTEN", rooms::REWRITTEN)];
+    let rooms = [("TABLE", rooms::TABLE), ("BITMAP", rooms::BITMAP), ("REWRITTEN", rooms::REWRITTEN), ("TEXT", rooms::TEXT)];
     for (name, room) in rooms {
         assert!(HEADER.contains(&format!("#define KEPOLAS_{name}_ROOM {room} ")), "{name}");
     }

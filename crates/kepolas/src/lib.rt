@@ -3,6 +3,7 @@
 use answer::answer_on_roll;
 use curator::curators_answer;
 use cutting::cut_view;
+use printer::print_query;
 use reader::read_text;
 use reply::Reply;
 use reply::number_of;
@@ -12,6 +13,7 @@ use roll::run_of;
 ghost use mathlib.Core.Path.{_≡_};
 ghost use Rattle.reply.specs.Reply.{said};
 ghost use Rattle.roll.specs.Promise.{RollChecked, RunPlace};
+ghost use Rattle.text.specs.Print.{TablePrinted};
 ghost use Rattle.text.specs.Promise.{TextRead};
 ghost use Rattle.answer.specs.Promise.{Answered};
 ghost use Rattle.view.specs.Promise.{ViewCut};
@@ -125,4 +127,12 @@ pub extern "C" fn kepolas_run_of(roll: &[u8], k: usize, start: &mut usize, end: 
         *start = first;
         *end = first + size;
     }
+}
+
+// A query table printed as text: request Q-1 of document 02.
+#[no_mangle]
+pub extern "C" fn kepolas_print_query(query: &[u8], room: &mut [u8], told: &mut usize) -> u64
+    ensures { λ r. ⌜ Tells (λ s. TablePrinted (now (query .entry)) (now (room .entry)) s (now (room .exit))) r (now (told .exit)) ⌝ }
+{
+    tell(print_query(query, room), told)
 }
