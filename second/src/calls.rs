@@ -1,10 +1,11 @@
-//! The seven calls of document 01.
+//! The seven calls of document 01, and those that document 02 adds.
 //!
-//! Calls 2 to 6 first work out all they are going to write and only then touch the room, so a refused call changes
-//! nothing.
+//! A call with a room first works out all it is going to write and only then touches the room, so a refused call
+//! changes nothing.
 
 use crate::annotation::Annotation;
 use crate::meaning::{Meaning, Nodes};
+use crate::print;
 use crate::reply::{refusal, Refusal, Reply};
 use crate::roll::{Tree, MOST_NODES, NODE_BYTES};
 use crate::table::{self, Entry, CURATORS_QUERY, ENTRY_BYTES, QUERY_ON_ROLL};
@@ -14,6 +15,7 @@ use crate::view::View;
 pub const TEXT_ROOM: usize = CURATORS_QUERY.entries * ENTRY_BYTES;
 pub const BITMAP_ROOM: usize = MOST_NODES / 8;
 pub const REWRITE_ROOM: usize = QUERY_ON_ROLL.entries * ENTRY_BYTES;
+pub const PRINT_ROOM: usize = text::MOST_BYTES;
 
 /// Call 1: the number of nodes of a roll.
 pub fn check_roll(roll: &[u8]) -> Reply {
@@ -80,6 +82,15 @@ pub fn run_of_record(roll: &[u8], record: usize) -> &[u8] {
         }
         _ => &[],
     }
+}
+
+/// Request Q-1 of document 02: writes the text of a curator's query table and gives its number of bytes.
+pub fn print_query(query: &[u8], room: &mut [u8]) -> Reply {
+    settle(room, PRINT_ROOM, || {
+        let text = print::print(&table::read_query(query, CURATORS_QUERY)?)?;
+        let bytes = text.len();
+        Ok((text, bytes))
+    })
 }
 
 /// Refuses a room that is too short before anything else; otherwise lets the call work and hands its bytes over.

@@ -97,6 +97,7 @@ fn make_call(words: &[&str]) -> Option<String> {
     let inputs = inputs.iter().map(|word| from_hex(word)).collect::<Option<Vec<_>>>()?;
     let reply = match (*call, &inputs[..]) {
         ("2", [text]) => calls::read_text(text, &mut room),
+        ("print", [query]) => calls::print_query(query, &mut room),
         ("3", [roll, query]) => calls::answer_on_roll(roll, query, &mut room),
         ("4", [roll, annotation, filters]) => calls::cut_view(roll, annotation, filters, &mut room),
         ("5", [annotation, filters, query]) => calls::rewrite(annotation, filters, query, &mut room),

@@ -1,6 +1,6 @@
 //! What a call gives back: a count, or a refusal's number with its place.
 
-/// A refusal of document 01: its number, and the record, entry or byte it points at.
+/// A refusal of document 01 or 02: its number, and the record, entry or byte it points at.
 #[derive(Clone, Copy, Debug, PartialEq, Eq)]
 pub struct Refusal {
     pub number: u8,
@@ -12,7 +12,7 @@ pub fn refusal(number: u8, place: usize) -> Refusal {
     Refusal { number, place }
 }
 
-/// The reply of calls 1 to 6.
+/// The reply of every call but call 7.
 #[derive(Clone, Copy, Debug, PartialEq, Eq)]
 pub enum Reply {
     Count(usize),

@@ -10,7 +10,7 @@ use crate::reply::{refusal, Refusal};
 use crate::roll::MOST_LABEL;
 use crate::table::{heights, Entry, CURATORS_QUERY};
 
-const MOST_BYTES: usize = 1024;
+pub const MOST_BYTES: usize = 1024;
 const MOST_OPEN: usize = 32;
 
 /// The table of a query text, or what is wrong with the text (13 to 16).

@@ -3,7 +3,7 @@
 mod common;
 
 use common::*;
-use second::calls::{BITMAP_ROOM, REWRITE_ROOM, TEXT_ROOM};
+use second::calls::{BITMAP_ROOM, PRINT_ROOM, REWRITE_ROOM, TEXT_ROOM};
 use second::Reply;
 
 /// Makes a call with a room of this length: the reply and the room afterwards. A refusal must not have touched the
@@ -31,6 +31,10 @@ fn rewrite(annotation: &[u8], filters: &[u8], query: &[u8]) -> Reply {
 
 fn curators(roll: &[u8], annotation: &[u8], filters: &[u8], query: &[u8]) -> Reply {
     with_room(BITMAP_ROOM, |room| second::curators_answer(roll, annotation, filters, query, room)).0
+}
+
+fn print(query: &[u8]) -> Reply {
+    with_room(PRINT_ROOM, |room| second::print_query(query, room)).0
 }
 
 fn one_node() -> Vec<u8> {
@@ -70,8 +74,10 @@ fn a_room_one_byte_too_short_is_refused_before_anything_is_looked_at() {
         let answer = |room: &mut [u8]| second::curators_answer(roll, annotation, filters, query, room);
         assert_eq!(with_room(BITMAP_ROOM - 1, answer).0, refused(1, 0));
         assert_eq!(with_room(0, answer).0, refused(1, 0));
+        assert_eq!(with_room(PRINT_ROOM - 1, |room| second::print_query(query, room)).0, refused(1, 0));
+        assert_eq!(with_room(0, |room| second::print_query(query, room)).0, refused(1, 0));
     }
-    assert_eq!((TEXT_ROOM, BITMAP_ROOM, REWRITE_ROOM), (1536, 512, 6144));
+    assert_eq!((TEXT_ROOM, BITMAP_ROOM, REWRITE_ROOM, PRINT_ROOM), (1536, 512, 6144, 1024));
 }
 
 #[test]
@@ -91,6 +97,8 @@ fn bytes_behind_what_is_written_stay() {
     let answer = |room: &mut [u8]| second::curators_answer(&roll, &annotation, &filters, &query, room);
     let (reply, room) = with_room(BITMAP_ROOM + 5, answer);
     assert!(reply == Reply::Count(3) && stays(&room, 512) && room[511] == 0);
+    let (reply, room) = with_room(PRINT_ROOM + 5, |room| second::print_query(&query, room));
+    assert!(reply == Reply::Count(3) && stays(&room, 3) && room[..3] == *b"v/v");
 }
 
 #[test]
@@ -197,6 +205,8 @@ fn heights_are_limited_by_the_table_they_stand_in() {
     assert!(matches!(rewrite(&[], &[], &table(&tower(32, true))), Reply::Count(_)));
     assert_eq!(curators(&one_node(), &[], &[], &table(&tower(33, true))), refused(9, 32));
     assert_eq!(curators(&one_node(), &[], &[], &table(&tower(32, true))), Reply::Count(1));
+    assert_eq!(print(&table(&tower(33, true))), refused(9, 32));
+    assert_eq!(print(&table(&tower(32, true))), Reply::Count(32));
     assert_eq!(on_roll(&one_node(), &table(&tower(129, true))), refused(9, 128));
     assert_eq!(on_roll(&one_node(), &table(&tower(128, true))), Reply::Count(1));
 }
@@ -214,8 +224,12 @@ fn lengths_are_limited_by_the_table_they_belong_to() {
     assert_eq!(on_roll(&one_node(), &paths(1025)), refused(12, 0));
     assert_eq!(on_roll(&one_node(), &[]), refused(12, 0));
     assert_eq!(rewrite(&[], &[], &[]), refused(12, 0));
+    assert_eq!(print(&paths(256)), Reply::Count(1));
+    assert_eq!(print(&paths(257)), refused(12, 0));
+    assert_eq!(print(&[]), refused(12, 0));
     for cut_off in 1..6 {
         assert_eq!(on_roll(&one_node(), &paths(2)[cut_off..]), refused(12, 0));
+        assert_eq!(print(&paths(2)[cut_off..]), refused(12, 0));
         assert_eq!(rewrite(&[], &filters(2)[cut_off..], &paths(1)), refused(7, 0));
         assert_eq!(rewrite(&[0; 12][cut_off..], &[], &paths(1)), refused(6, 0));
     }
@@ -344,6 +358,27 @@ fn of_several_faults_the_first_in_order_is_given() {
         }
     }
     assert_eq!(calls, 5 * 4 * 4 * 5);
+    for (query, query_fault) in queries() {
+        check_first_fault(print(&query), &[query_fault]);
+    }
+}
+
+/// A path that unfolds to more text than can be printed, and behind it what is wrong with the table.
+#[test]
+fn the_length_of_a_text_is_asked_for_after_all_else() {
+    let mut storeys = vec![SELF];
+    while storeys.len() < 32 {
+        let below = storeys.len() as u16 - 1;
+        storeys.push(entry(7, 0, below, below));
+    }
+    let behind = |last: &[[u8; 6]]| print(&table(&[&storeys[..], last].concat()));
+    assert_eq!(behind(&[]), refused(18, 0));
+    assert_eq!(behind(&[TRUE]), refused(12, 32));
+    assert_eq!(behind(&[entry(9, 0, 31, 0)]), refused(9, 32));
+    assert_eq!(behind(&[entry(9, 0, 32, 0)]), refused(8, 32));
+    assert_eq!(behind(&[[0; 6]; 225]), refused(12, 0));
+    // Entries that the query does not use are not printed, however long they are.
+    assert_eq!(behind(&[SELF]), Reply::Count(1));
 }
 
 #[test]

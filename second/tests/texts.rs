@@ -8,9 +8,6 @@ use common::*;
 use second::calls::TEXT_ROOM;
 use second::Reply;
 
-/// The bytes the grammar knows.
-const BYTES: &[u8; 30] = b".v^><[]()|/*!tf#{}+&0123456789";
-
 /// The grammar's definitions.
 #[derive(Clone, Copy, PartialEq, Eq, Hash)]
 enum Sort {
@@ -112,17 +109,6 @@ fn agrees(extent: Extent, text: &[u8], word: &[u8]) -> bool {
 
 fn reply(text: &[u8]) -> Reply {
     second::read_text(text, &mut [0; TEXT_ROOM])
-}
-
-/// All texts of so many bytes over an alphabet.
-fn all_texts(alphabet: &[u8], length: usize) -> Vec<Vec<u8>> {
-    let mut texts = vec![vec![]];
-    for _ in 0..length {
-        let one_longer =
-            |text: &Vec<u8>| alphabet.iter().map(|byte| [&text[..], &[*byte]].concat()).collect::<Vec<_>>();
-        texts = texts.iter().flat_map(one_longer).collect();
-    }
-    texts
 }
 
 /// Checks that a text is refused with 14 at this place, or is read if there is none.

@@ -1,9 +1,9 @@
-//! The cases that came with document 01, line by line.
+//! The cases that came with documents 01 and 02, line by line.
 
 mod common;
 
 use common::*;
-use second::calls::{nodes_of_bitmap, BITMAP_ROOM, REWRITE_ROOM, TEXT_ROOM};
+use second::calls::{nodes_of_bitmap, BITMAP_ROOM, PRINT_ROOM, REWRITE_ROOM, TEXT_ROOM};
 use second::Reply;
 
 /// Each file's number of lines, so that a file cut short does not pass.
@@ -32,6 +32,19 @@ fn texts() {
         let reply = second::read_text(&from_hex(case[0]), &mut room);
         let written = if let Reply::Count(entries) = reply { entries * 6 } else { 0 };
         assert_eq!(format!("{} {reply} {}", case[0], to_hex(&room[..written])), case.join(" "));
+        assert!(room[written..].iter().all(|byte| *byte == UNTOUCHED));
+    }
+}
+
+/// What stands behind a line's bar is for request Q-2 of document 02.
+#[test]
+fn prints() {
+    for case in cases(include_str!("vectors/prints.txt")) {
+        let bar = case.iter().position(|word| *word == "|").expect("a line has its bar");
+        let mut room = [UNTOUCHED; PRINT_ROOM];
+        let reply = second::print_query(&from_hex(case[0]), &mut room);
+        let written = if let Reply::Count(bytes) = reply { bytes } else { 0 };
+        assert_eq!(format!("{} {reply} {}", case[0], to_hex(&room[..written])), case[..bar].join(" "));
         assert!(room[written..].iter().all(|byte| *byte == UNTOUCHED));
     }
 }

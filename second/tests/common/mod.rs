@@ -54,6 +54,20 @@ pub fn query(text: &str) -> Vec<u8> {
     room[..entries * 6].to_vec()
 }
 
+/// The bytes the grammar knows.
+pub const BYTES: &[u8; 30] = b".v^><[]()|/*!tf#{}+&0123456789";
+
+/// All texts of so many bytes over an alphabet.
+pub fn all_texts(alphabet: &[u8], length: usize) -> Vec<Vec<u8>> {
+    let mut texts = vec![vec![]];
+    for _ in 0..length {
+        let one_longer =
+            |text: &Vec<u8>| alphabet.iter().map(|byte| [&text[..], &[*byte]].concat()).collect::<Vec<_>>();
+        texts = texts.iter().flat_map(one_longer).collect();
+    }
+    texts
+}
+
 /// Filters one behind the other as the reader writes them, and the number of each: the last entry of `[filter]` is
 /// left out.
 pub fn filters(texts: &[&str]) -> (Vec<u8>, Vec<u16>) {
