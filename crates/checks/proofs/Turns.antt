@@ -8,7 +8,7 @@ use Rattle.reply.specs.declared.Reply.the-variants.{Count, Refused}
 use Rattle.reply.specs.Reply.{Said, refused, said}
 use Rattle.reply.specs.Bytes.{Bytes}
 use Rattle.reply.specs.Outcome.{InTurn, first, behind, Outcome, short, turned-away, Checked}
-use Rattle.reply.proofs.Checking.{fails, counted, faulted, right-of, passed-up, checked-as}
+use Rattle.reply.proofs.Checking.{fails, right-counted, faulted, right-of, passed-up, checked-as}
 use Rattle.checks.specs.Ready as ready
 use Rattle.checks.specs.Ready.{inTurn, SaidInTurn, Short, Ready}
 
@@ -51,7 +51,7 @@ module _ {room given : ℕ} {Right : Type 0} {Fault : ℕ → ℕ → Type 0} {s
 
   -- what is counted has its room and is right, and the count is its size
   pub ready-counted : {c : ℕ} {r : Reply} → r ≡ Count c → Ready room given Right Fault size (said r) → (room ≤ given) × Right × (c ≡ size)
-  ready-counted e h = let (right, same) = counted (rw e at h) in (right .0, right .1, same)
+  ready-counted e h = let (right, same) = right-counted e h in (right .0, right .1, same)
 
 -- where there is room, two replies in turn are all that is left
 pub both-ready : {room given : ℕ} {First Rest : Type 0} {F G : ℕ → ℕ → Type 0} {size m : ℕ} {u v r : Reply} → room ≤ given

@@ -24,7 +24,8 @@ use Rattle.evaluator.proofs.Walks.{Then}
 use Rattle.evaluator.specs.declared.course.Course.{Course}
 use Rattle.evaluator.specs.declared.course.Course.the-variants.{Forwards, Backwards, Freely}
 use Rattle.evaluator.specs.Course.{facing, pathOf, firstOf, OfKind}
-use Rattle.evaluator.specs.Evaluator.{InOrder, Knowing, Within, Asked, Still}
+use Rattle.tables.specs.Promise.{EntriesRight}
+use Rattle.evaluator.specs.Evaluator.{Knowing, Within, Asked, Still}
 use Rattle.evaluator.proofs.Images.{Stays}
 use Rattle.evaluator.proofs.Walks.{walk-stays, stay-still, then-parts}
 
@@ -38,7 +39,7 @@ none-behind l a b c d = omega arith
 
 -- The entry that a function has read, of a table in order.
 pub record Read (tab : Bytes) (s : Sort) (e : ℕ) (read : Entry) : Type 0 where
-  pub order : InOrder tab
+  pub order : EntriesRight tab
   pub entry : Within tab s e
   pub fields : Fields (entryAt (entries tab) e) read
 
@@ -149,7 +150,7 @@ module _ {tab : Bytes} {s : Sort} {e : ℕ} {read : Entry} (k : Read tab s e rea
   is-or is = standing.or-stands (entries tab) e (k .entry .within) (entryOf read) same-entry right is
 
 -- a filter's entry stays where it is, on every course
-pub stays-at : {tab : Bytes} {x : ℕ} → InOrder tab → Within tab path x → entryAt (entries tab) x .kind ≡ 6
+pub stays-at : {tab : Bytes} {x : ℕ} → EntriesRight tab → Within tab path x → entryAt (entries tab) x .kind ≡ 6
     → (course : Course) → Still (facing course (pathAt (entries tab) x))
 stays-at {tab} {x} order w is course =
     rw (standing.stay-stands (entries tab) x (w .within) (entryAt (entries tab) x) refl (order x (w .within)) is .1) (stay-still course _)

@@ -10,19 +10,16 @@ use Rattle.roll.specs.Roll.{nodes, Roll}
 use Rattle.query.specs.Syntax.{Path}
 use Rattle.query.specs.Kind.{Sort}
 use Rattle.query.specs.Meaning.{reach, holds}
-use Rattle.query.specs.Table.{entries, HasSort, EntryRight, filterAt}
+use Rattle.query.specs.Table.{entries, HasSort, filterAt}
+use Rattle.tables.specs.Promise.{EntriesRight}
 use Rattle.sets.specs.Sets.{In, Inside}
 use Rattle.links.specs.Links.{Siblings}
-
--- the entries of a table are in order
-abbrev pub InOrder : Bytes → Type 0
-InOrder table = (i : ℕ) → i < length (entries table) → EntryRight (entries table) i
 
 -- a roll with its links, and a table whose entries are in order
 pub record Grounds (roll table : Bytes) (links : List ℕ) : Type 0 where
   pub roll-right : Roll roll
   pub linked : Siblings (nodes roll) links
-  pub each : InOrder table
+  pub each : EntriesRight table
 
 -- the nodes where the filter of entry `known` holds, if the table has such an entry
 abbrev pub Held : Bytes → Bytes → ℕ → List ℕ → Type 0

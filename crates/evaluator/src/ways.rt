@@ -16,7 +16,8 @@ ghost use Rattle.query.specs.Syntax as syntax;
 ghost use Rattle.query.specs.Syntax.{Path};
 ghost use Rattle.query.specs.Table.{entries, pathAt};
 ghost use Rattle.evaluator.specs.Course.{facing};
-ghost use Rattle.evaluator.specs.Evaluator.{InOrder, Within};
+ghost use Rattle.evaluator.specs.Evaluator.{Within};
+ghost use Rattle.tables.specs.Promise.{EntriesRight};
 ghost use Rattle.evaluator.specs.Ways.{Leads};
 
 pub enum Way {
@@ -42,7 +43,7 @@ pub(crate) const DEEP: usize = 8;
 
 // The axes along which the path of entry e leads, if it is one step along an axis or a choice of such steps, `deep` in one another at most.
 pub(crate) fn way_of(table: &[u8], e: usize, course: Course, deep: usize) -> Way
-    requires { ⌜ InOrder (now table) × Within (now table) path e ⌝ }
+    requires { ⌜ EntriesRight (now table) × Within (now table) path e ⌝ }
     ensures { λ r. ⌜ Leads (facing course (pathAt (entries (now (table .entry))) e)) r ⌝ }
 {
     let entry = entry_at(table, e);

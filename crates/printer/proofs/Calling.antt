@@ -13,7 +13,7 @@ use Rattle.reply.specs.Reply.{Said, count, refused, said}
 use Rattle.reply.specs.Bytes.{Bytes}
 use Rattle.reply.specs.Outcome.{first, behind, done, short, turned-away}
 use Rattle.reply.proofs.Reply as the-reply
-use Rattle.reply.proofs.Checking.{counted, faulted}
+use Rattle.reply.proofs.Checking.{faulted}
 use Rattle.query.specs.Kind.{path}
 use Rattle.query.specs.Syntax.{Path}
 use Rattle.query.specs.Table.{Entries, entries, EntryRight, pathAt, queryOf}
@@ -105,11 +105,6 @@ module _ {table : Bytes} (query : Query curators table) where
       where
         go : Holds (entryShown es (length es - 1)) Full after → 1024 < length (entryShown es (length es - 1))
         go (no-room long) = long
-
--- a check that counts says that the table is a query
-pub query-counted : {table : Bytes} {c : ℕ} {r : Reply} → r ≡ Count c → QueryChecked curators table (said r)
-    → Query curators table × (c ≡ length (entries table))
-query-counted {table = table} e x = counted (rw e at x)
 
 -- what is copied from the front of a buffer
 pub front-copied : (n : ℕ) (buffer before : Bytes) {room : Bytes} → n ≤ length buffer

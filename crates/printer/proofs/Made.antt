@@ -97,29 +97,36 @@ module _ (es : Entries) (order : (i : ℕ) → i < length es → EntryRight es i
   unfolding OperandField
   operand-held s y f least = held-as es y (omega (arith, f .0)) s (f .1) least
 
+  -- One operand: what is around its text.
+  around : (s t : Sort) (least : ℕ) (f : Bytes → Bytes) → HasSort es e s → OperandField es e (of t) (own .left)
+      → shownAs s es e ≡ f (heldAs t least es (own .left)) → (own .left < e) × (entryShown es e ≡ f (entryHeld least es (own .left)))
+  unfolding OperandField
+  around s t least f sort operand same =
+      (operand .0, shown-as es e within s sort ∙ same ∙ ap f (sym (operand-held t (own .left) operand least)))
+
   pub stay-shown : own .kind ≡ 6 → (own .left < e) × (entryShown es e ≡ 91 ∷ entryHeld 0 es (own .left) ++ 93 ∷ [])
-  unfolding kinds find pathShown between OperandField filterHeld
+  unfolding kinds find pathShown between filterHeld
   stay-shown is =
       let (f, same) = standing.stay-stands es e within own refl (order e within) is in
-      (f .0, shown-as es e within path (of-sort 6 refl is) ∙ rw (same, operand-held filter (own .left) f 0, bare))
+      around path filter 0 (λ x. 91 ∷ x ++ 93 ∷ []) (of-sort 6 refl is) f (rw (same, bare) refl)
 
   pub star-shown : own .kind ≡ 9 → (own .left < e) × (entryShown es e ≡ entryHeld 2 es (own .left) ++ 42 ∷ [])
-  unfolding kinds find pathShown OperandField
+  unfolding kinds find pathShown
   star-shown is =
       let (f, same) = standing.star-stands es e within own refl (order e within) is in
-      (f .0, shown-as es e within path (of-sort 9 refl is) ∙ rw (same, operand-held path (own .left) f 2))
+      around path path 2 (λ x. x ++ 42 ∷ []) (of-sort 9 refl is) f (ap pathShown same)
 
   pub leads-shown : own .kind ≡ 17 → (own .left < e) × (entryShown es e ≡ entryHeld 0 es (own .left))
-  unfolding kinds find filterShown OperandField pathHeld
+  unfolding kinds find filterShown pathHeld
   leads-shown is =
       let (f, same) = standing.leads-stands es e within own refl (order e within) is in
-      (f .0, shown-as es e within filter (of-sort 17 refl is) ∙ rw (same, operand-held path (own .left) f 0, bare))
+      around filter path 0 (λ x. x) (of-sort 17 refl is) f (rw (same, bare) refl)
 
   pub not-shown : own .kind ≡ 20 → (own .left < e) × (entryShown es e ≡ 33 ∷ entryHeld 2 es (own .left))
-  unfolding kinds find filterShown OperandField
+  unfolding kinds find filterShown
   not-shown is =
       let (f, same) = standing.not-stands es e within own refl (order e within) is in
-      (f .0, shown-as es e within filter (of-sort 20 refl is) ∙ rw (same, operand-held filter (own .left) f 2))
+      around filter filter 2 (λ x. 33 ∷ x) (of-sort 20 refl is) f (ap filterShown same)
 
   -- two operands, joined by a byte: the right one is held one rank tighter
   abbrev pub Joined : ℕ → ℕ → Type 0
@@ -127,29 +134,35 @@ module _ (es : Entries) (order : (i : ℕ) → i < length es → EntryRight es i
       (own .left < e) × (own .right < e)
       × (entryShown es e ≡ entryHeld rank es (own .left) ++ byte ∷ entryHeld (rank + 1) es (own .right))
 
+  joined : (s : Sort) (rank byte : ℕ) → HasSort es e s → OperandField es e (of s) (own .left) → OperandField es e (of s) (own .right)
+      → shownAs s es e ≡ heldAs s rank es (own .left) ++ byte ∷ heldAs s (rank + 1) es (own .right) → Joined rank byte
+  unfolding OperandField
+  joined s rank byte sort f g same =
+      (f .0, g .0, shown-as es e within s sort ∙ rw (same, operand-held s (own .left) f rank, operand-held s (own .right) g (rank + 1)))
+
   then-shown : own .kind ≡ 7 → Joined 1 47
-  unfolding kinds find pathShown OperandField
+  unfolding kinds find pathShown
   then-shown is =
       let ((f, g), same) = standing.then-stands es e within own refl (order e within) is in
-      (f .0, g .0, shown-as es e within path (of-sort 7 refl is) ∙ rw (same, operand-held path (own .left) f 1, operand-held path (own .right) g 2))
+      joined path 1 47 (of-sort 7 refl is) f g (ap pathShown same)
 
   either-shown : own .kind ≡ 8 → Joined 0 124
-  unfolding kinds find pathShown OperandField pathHeld
+  unfolding kinds find pathShown pathHeld
   either-shown is =
       let ((f, g), same) = standing.either-stands es e within own refl (order e within) is in
-      (f .0, g .0, shown-as es e within path (of-sort 8 refl is) ∙ rw (same, operand-held path (own .left) f 0, operand-held path (own .right) g 1, bare))
+      joined path 0 124 (of-sort 8 refl is) f g (rw (same, bare) refl)
 
   and-shown : own .kind ≡ 21 → Joined 1 38
-  unfolding kinds find filterShown OperandField
+  unfolding kinds find filterShown
   and-shown is =
       let ((f, g), same) = standing.and-stands es e within own refl (order e within) is in
-      (f .0, g .0, shown-as es e within filter (of-sort 21 refl is) ∙ rw (same, operand-held filter (own .left) f 1, operand-held filter (own .right) g 2))
+      joined filter 1 38 (of-sort 21 refl is) f g (ap filterShown same)
 
   or-shown : own .kind ≡ 22 → Joined 0 43
-  unfolding kinds find filterShown OperandField filterHeld
+  unfolding kinds find filterShown filterHeld
   or-shown is =
       let ((f, g), same) = standing.or-stands es e within own refl (order e within) is in
-      (f .0, g .0, shown-as es e within filter (of-sort 22 refl is) ∙ rw (same, operand-held filter (own .left) f 0, operand-held filter (own .right) g 1, bare))
+      joined filter 0 43 (of-sort 22 refl is) f g (rw (same, bare) refl)
 
   -- by its rank and its symbol: only the kinds that join two are so loose
   pub joined-shown : getD ranks (own .kind) 0 < 2 → Joined (getD ranks (own .kind) 0) (getD symbols (own .kind) 0)

@@ -8,14 +8,10 @@ use lib.Dec.{ltb}
 use lib.ListN.{length, getD, take}
 use Rattle.reply.specs.Bytes.{Bytes}
 use Rattle.query.specs.Syntax as syntax
-use Rattle.query.specs.Table.{Entries, entries, entryAt, EntryRight, Meant, a-path, a-filter, meanings}
+use Rattle.query.specs.Table.{Entries, entries, Meant, a-path, a-filter, meanings}
 use Rattle.shortest.proofs.Shown.{pathHeld, filterHeld, pathShown, filterShown}
 use Rattle.printer.specs.declared.spot.Spot.{Spot}
 use Rattle.printer.specs.declared.spot.Spot.the-variants.{At, Full}
-
--- the entries of a table are in order
-abbrev pub InOrder : Bytes → Type 0
-InOrder table = (i : ℕ) → i < length (entries table) → EntryRight (entries table) i
 
 -- The text so far is x: it stands at the front of the buffer, up to the spot; or it has no room there.
 pub data Holds (x : Bytes) : Spot → Bytes → Type 0 where

@@ -1,4 +1,9 @@
 // The text of an entry, which is made of those of its operands. The two functions call each other, and the entry number falls.
+use crate::kinds::LABELLED;
+use crate::kinds::LEADS;
+use crate::kinds::NOT;
+use crate::kinds::STAR;
+use crate::kinds::STAY;
 use crate::spot::Spot;
 use crate::spot::put;
 use crate::symbols::closing;
@@ -11,11 +16,12 @@ use tables::kind_at;
 ghost use Prim.Native.Nat.{_<_};
 ghost use lib.ListN.{length};
 ghost use Rattle.query.specs.Table.{entries};
-ghost use Rattle.printer.specs.Printing.{InOrder, Goes, entryShown, entryHeld};
+ghost use Rattle.tables.specs.Promise.{EntriesRight};
+ghost use Rattle.printer.specs.Printing.{Goes, entryShown, entryHeld};
 
 // The text of entry e with no brackets around it.
 pub(crate) fn show(table: &[u8], e: usize, out: &mut [u8; 1024], spot: Spot) -> Spot
-    requires { ⌜ InOrder (now table) × (e < length (entries (now table))) ⌝ }
+    requires { ⌜ EntriesRight (now table) × (e < length (entries (now table))) ⌝ }
     ensures { λ r. ⌜ Goes (entryShown (entries (now (table .entry))) e) (now (out .entry)) spot r (now (out .exit)) ⌝ }
 {
     let entry = entry_at(table, e);
@@ -28,21 +34,21 @@ pub(crate) fn show(table: &[u8], e: usize, out: &mut [u8; 1024], spot: Spot) -> 
         return hold(table, entry.right, own + 1, out, joined);
     }
     match kind {
-        6 => {
+        STAY => {
             let opened = put(out, spot, b'[');
             let inside = hold(table, left, 0, out, opened);
             put(out, inside, b']')
         }
-        9 => {
+        STAR => {
             let item = hold(table, left, 2, out, spot);
             put(out, item, symbol(kind))
         }
-        16 => {
+        LABELLED => {
             let hash = put(out, spot, symbol(kind));
             put_label(out, hash, entry.label)
         }
-        17 => hold(table, left, 0, out, spot),
-        20 => {
+        LEADS => hold(table, left, 0, out, spot),
+        NOT => {
             let not = put(out, spot, symbol(kind));
             hold(table, left, 2, out, not)
         }
@@ -53,7 +59,7 @@ pub(crate) fn show(table: &[u8], e: usize, out: &mut [u8; 1024], spot: Spot) -> 
 // The text of entry e where at least a rank is asked for: in brackets if it is joined more loosely. A text that is full already is left
 // alone, so that no entry is unfolded for nothing.
 fn hold(table: &[u8], e: usize, least: usize, out: &mut [u8; 1024], spot: Spot) -> Spot
-    requires { ⌜ InOrder (now table) × (e < length (entries (now table))) ⌝ }
+    requires { ⌜ EntriesRight (now table) × (e < length (entries (now table))) ⌝ }
     ensures { λ r. ⌜ Goes (entryHeld least (entries (now (table .entry))) e) (now (out .entry)) spot r (now (out .exit)) ⌝ }
 {
     let Spot::At(_) = spot else {

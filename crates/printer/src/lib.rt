@@ -1,5 +1,6 @@
 // A query table is printed as text. The text is written into a local buffer, and the lent room only once all of it fits.
 mod entries;
+mod kinds;
 mod spot;
 mod symbols;
 

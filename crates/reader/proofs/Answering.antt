@@ -13,7 +13,7 @@ use Rattle.reply.specs.Reply.{Said, number, count, refused, said}
 use Rattle.reply.specs.Bytes.{Bytes}
 use Rattle.reply.specs.Outcome.{done, short, turned-away}
 use Rattle.reply.proofs.Reply as the-reply
-use Rattle.reply.proofs.Checking.{counted, faulted}
+use Rattle.reply.proofs.Checking.{right-counted, faulted}
 use Rattle.query.specs.Syntax.{Path}
 use Rattle.query.specs.Table.{entries, entryBytes}
 use Rattle.query.specs.Fault.{curators, Query}
@@ -28,23 +28,18 @@ use Rattle.tokens.specs.declared.answer.Parsed.{Parsed}
 use Rattle.tokens.specs.declared.answer.Parsed.the-variants.{Got, Broken, Deep}
 use Rattle.reader.specs.Reader.{Parses, parses, breaks-off, too-many-open, WrittenOut}
 
--- a check that counts says that the table is a query
-query-counted : {table : Bytes} {c : ℕ} {r : Reply} → r ≡ Count c → QueryChecked curators table (said r)
-    → Query curators table × (c ≡ length (entries table))
-query-counted {table = table} e x = counted (rw e at x)
-
 -- The table is checked: by what the check replies, it is written out or refused.
 module _ {table : Bytes} (before : Bytes) where
   -- there is room for it
   pub room-enough : {c : ℕ} {r : Reply} → r ≡ Count c → QueryChecked curators table (said r) → 1536 ≤ length before
       → length table ≤ length before
-  room-enough e x room = omega (arith, query-counted e x .0 .size .size .most)
+  room-enough e x room = omega (arith, right-counted e x .0 .size .size .most)
 
   -- it is written
   pub written-out : {c : ℕ} {r : Reply} {after : Bytes} → r ≡ Count c → QueryChecked curators table (said r) → 1536 ≤ length before
       → after ≡ take (length table) table ++ drop (length table) before → WrittenOut table before (count c) after
   written-out e x room copied =
-      let (query, size) = query-counted e x in
+      let (query, size) = right-counted e x in
       done zero-le query (
         size,
         record {

@@ -26,9 +26,12 @@ module _ {Right : Type 0} {Fault : ℕ → ℕ → Type 0} {size : ℕ} where
   faulted (short less) = absurd (omega arith)
   faulted (turned-away room fault) = fault
 
-  -- an input whose check gives a count is right
+  -- an input whose check replies with a count is right, and the count is its size
+  pub right-counted : {c : ℕ} {r : Reply} → r ≡ Count c → Checked Right Fault size (said r) → Right × (c ≡ size)
+  right-counted e h = counted (rw e at h)
+
   pub right-of : {c : ℕ} {r : Reply} → r ≡ Count c → Checked Right Fault size (said r) → Right
-  right-of e h = counted (rw e at h) .0
+  right-of e h = right-counted e h .0
 
   -- a refusal is passed up at once, where the fault is one of what is checked above
   pub passed-up : {Above : Type 0} {Listed : ℕ → ℕ → Type 0} {most : ℕ} {r : Reply} {x : Refusal}

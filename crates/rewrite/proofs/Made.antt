@@ -25,7 +25,8 @@ use Rattle.written.proofs.Stands.{Sound}
 use Rattle.written.proofs.Table.{table-size, table-sound, table-stands, visible-stands}
 use Rattle.written.proofs.Back.{table-back}
 use Rattle.tables.specs.Laid.{laid}
-use Rattle.writer.specs.Laid.{Room, LabelBytes, Numbers, AllInOrder}
+use Rattle.tables.specs.Promise.{EntriesRight}
+use Rattle.writer.specs.Laid.{Room, LabelBytes, Numbers}
 use Rattle.writer.proofs.Recording.{written-size}
 use Rattle.theorem.proofs.VisibleFilter.{visible-right}
 use Rattle.rewrite.specs.Promise.{Faithful, Rewritten}
@@ -197,7 +198,7 @@ module _ {annotation filters query : Bytes} (annotated : Annotated annotation fi
     -- what the writer is given
     pub writer-given : {first : ℕ} → first ≡ length front
         → let many : ℕ = preludeSize (length rs) + length own in
-        Room (lent copied size) 0 many × (LabelBytes annotation × (AllInOrder query × Numbers first many))
+        Room (lent copied size) 0 many × (LabelBytes annotation × (EntriesRight query × Numbers first many))
     writer-given e =
         let fits = fits-room room in
         let f = few in

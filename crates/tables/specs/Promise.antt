@@ -4,8 +4,12 @@ use lib.ListN.{length}
 use Rattle.reply.specs.Reply.{Said}
 use Rattle.reply.specs.Bytes.{Bytes}
 use Rattle.reply.specs.Outcome.{Lowest, Checked}
-use Rattle.query.specs.Table.{entries}
+use Rattle.query.specs.Table.{entries, EntryRight}
 use Rattle.query.specs.Fault.{Limits, EntryFits, EntryFault, Query, QueryFault, FilterTable, FilterFault}
+
+-- every entry of a table is in order
+abbrev pub EntriesRight : Bytes → Type 0
+EntriesRight b = (i : ℕ) → i < length (entries b) → EntryRight (entries b) i
 
 -- the entries alone: "lowest entry, in it 8, 9"
 abbrev pub EntriesChecked : Limits → Bytes → Said → Type 0

@@ -3,7 +3,7 @@ use Prim.Native.Nat.{ℕ, _+_, _*_, _≤_, _<_}
 use mathlib.Core.Path.{_≡_}
 use lib.ListN.{length}
 use Rattle.reply.specs.Bytes.{Bytes}
-use Rattle.query.specs.Table.{Entry, entries, EntryRight}
+use Rattle.query.specs.Table.{Entry, entries}
 use Rattle.view.specs.Annotation.{records, recordAt}
 use Rattle.written.specs.Written.{raise, axisRow, chosen}
 use Rattle.tables.specs.Laid.{fields}
@@ -33,10 +33,6 @@ abbrev pub LabelBytes : Bytes → Type 0
 LabelBytes annotation =
     (i : ℕ) → i < length (records annotation)
     → ByteFields (recordAt (records annotation) i .parent) (recordAt (records annotation) i .child)
-
--- every entry of a table is in order
-abbrev pub AllInOrder : Bytes → Type 0
-AllInOrder table = (i : ℕ) → i < length (entries table) → EntryRight (entries table) i
 
 -- an entry by the struct of its fields
 abbrev pub asEntry : Fields → Entry

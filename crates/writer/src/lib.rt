@@ -16,7 +16,8 @@ ghost use Rattle.query.specs.Table.{entries};
 ghost use Rattle.view.specs.Annotation.{records};
 ghost use Rattle.written.specs.Written.{preludeSize, written};
 ghost use Rattle.tables.specs.Laid.{laid};
-ghost use Rattle.writer.specs.Laid.{Room, LabelBytes, Numbers, AllInOrder};
+ghost use Rattle.tables.specs.Promise.{EntriesRight};
+ghost use Rattle.writer.specs.Laid.{Room, LabelBytes, Numbers};
 
 // How far before the query's entries the two stand that the rows count from.
 const ROWS_BEHIND: usize = 58;
@@ -25,7 +26,7 @@ const ROWS_BEHIND: usize = 58;
 pub fn write_behind(out: &mut [u8], annotation: &[u8], query: &[u8], first: usize) -> usize
     requires { ⌜ Room (now out) 0 (preludeSize (length (records (now annotation))) + length (entries (now query))) ⌝ }
     requires { ⌜ LabelBytes (now annotation) ⌝ }
-    requires { ⌜ AllInOrder (now query) ⌝ }
+    requires { ⌜ EntriesRight (now query) ⌝ }
     requires { ⌜ Numbers first (preludeSize (length (records (now annotation))) + length (entries (now query))) ⌝ }
     ensures { λ r. ⌜ r ≡ length (written first (records (now (annotation .entry))) (entries (now (query .entry)))) ⌝ }
     ensures { λ _. ⌜ now (out .exit) ≡ laid (now (out .entry)) 0 (written first (records (now (annotation .entry))) (entries (now (query .entry)))) ⌝ }

@@ -13,7 +13,8 @@ ghost use lib.ListN.{length};
 ghost use Rattle.query.specs.Table.{entries, entryAt, EntryRight};
 ghost use Rattle.written.specs.Written.{viewEntry};
 ghost use Rattle.tables.specs.Laid.{laid};
-ghost use Rattle.writer.specs.Laid.{Room, Short, AllInOrder, StandsFor};
+ghost use Rattle.tables.specs.Promise.{EntriesRight};
+ghost use Rattle.writer.specs.Laid.{Room, Short, StandsFor};
 
 // The last row of each axis.
 const DOWN: usize = 18;
@@ -71,7 +72,7 @@ fn put_view(out: &mut [u8], at: usize, query: &[u8], i: usize, axes: usize, dist
 // Writes what stands for each entry of the query, from entry `at` of the part on.
 pub fn write_query(out: &mut [u8], at: usize, query: &[u8], axes: usize, distance: usize)
     requires { ⌜ Room (now out) at (length (entries (now query))) ⌝ }
-    requires { ⌜ AllInOrder (now query) ⌝ }
+    requires { ⌜ EntriesRight (now query) ⌝ }
     requires { ⌜ Short (length (entries (now query))) × (Short axes × Short distance) ⌝ }
     ensures { λ _. ⌜ now (out .exit) ≡ laid (now (out .entry)) at (map (viewEntry axes distance) (entries (now (query .entry)))) ⌝ }
 {

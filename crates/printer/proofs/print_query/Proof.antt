@@ -6,16 +6,17 @@ use borrow.Author.Needs.{needs}
 use denote.Ref.{now}
 use lib.ListN.{length}
 use lib.Seq.{length-take-le}
+use Rattle.reply.proofs.Checking.{right-counted}
 use Rattle.query.specs.Table.{entries}
 use Rattle.query.specs.Fault.{curators, Query}
-use Rattle.printer.proofs.Calling.{query-counted, too-short, refused-table, last-within, Fits, fits, printed, not-printed, front-copied}
+use Rattle.printer.proofs.Calling.{too-short, refused-table, last-within, Fits, fits, printed, not-printed, front-copied}
 use Rattle.printer.proofs.print_query.Statement.{statement}
 use Rattle.printer.proofs.print_query.Tie as tie
 
 -- The table is a query, of so many entries.
 checked : (c : tie.After-checked) → let s = c .before .before .before .before .before .before in
     Query curators (now (s .args .query)) × (c .checked .given .0 .0 ≡ length (entries (now (s .args .query))))
-checked c = query-counted (c .checked .given .1) (c .before .before .check-query .ensures)
+checked c = right-counted (c .checked .given .1) (c .before .before .check-query .ensures)
 
 -- Its text is shown, and fits.
 held : (c : tie.After-end) → let shown = c .before .before in

@@ -9,7 +9,8 @@ use lib.ListN.{length, getD}
 use Rattle.tree.proofs.Calls as calls
 use Rattle.query.specs.Table.{Entry, Entries, entries, entryAt}
 use Rattle.tables.specs.Fields.{Fields}
-use Rattle.printer.specs.Printing.{InOrder, ranks, entryShown, entryHeld}
+use Rattle.tables.specs.Promise.{EntriesRight}
+use Rattle.printer.specs.Printing.{ranks, entryShown, entryHeld}
 use Rattle.printer.proofs.Going.{and-then}
 use Rattle.printer.proofs.Made.{joined-shown, stay-shown, star-shown, label-shown, leads-shown, not-shown, leaf-shown}
 use Rattle.printer.proofs.entries.+hold+show.Proof.Measures.{μ-hold, μ-show}
@@ -43,7 +44,7 @@ module _ (t : ℕ) where
     abbrev entry : Entry
     entry = entryAt table (start .args .e)
 
-    order : InOrder (now (start .args .table))
+    order : EntriesRight (now (start .args .table))
     order = start .pre .1 .0
 
     within : start .args .e < length table
@@ -61,7 +62,7 @@ module _ (t : ℕ) where
     ranked = rw (← fields .kind) (c .rank .ensures)
 
     -- an operand is held in its turn
-    ask : {x y : ℕ} → x ≡ y → y < start .args .e → (2 * x + 1 < t) × (InOrder (now (start .args .table)) × (x < length table))
+    ask : {x y : ℕ} → x ≡ y → y < start .args .e → (2 * x + 1 < t) × (EntriesRight (now (start .args .table)) × (x < length table))
     ask same l = (omega (arith, start .pre .0), (order, omega (arith, within)))
 
   -- it joins two operands, or not
