@@ -1,4 +1,5 @@
 pub mod Unique
+pub mod SamePath
 pub mod Drawn
 pub mod Giving
 pub mod Asking

@@ -1,4 +1,5 @@
 pub mod Unique
+pub mod SamePath
 pub mod Positions
 pub mod Through
 pub mod Alike

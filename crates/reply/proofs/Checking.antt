@@ -5,8 +5,23 @@ use mathlib.Core.Path.{_≡_, refl}
 use Rattle.reply.specs.declared.Refusal.{Refusal}
 use Rattle.reply.specs.declared.Reply.{Reply}
 use Rattle.reply.specs.declared.Reply.the-variants.{Count, Refused}
+use Rattle.reply.specs.Bytes.{Bytes}
 use Rattle.reply.specs.Reply.{Said, count, refused, said}
-use Rattle.reply.specs.Outcome.{Lowest, done, short, turned-away, Checked}
+use Rattle.reply.specs.Outcome.{Lowest, InTurn, first, behind, Outcome, done, short, turned-away, Checked}
+
+-- how one call comes out is how another does that is right where it is right, has its faults and does its work
+pub outcome-as : {room : ℕ} {Right Whole : Type 0} {Fault Listed : ℕ → ℕ → Type 0} {Done Made : ℕ → Bytes → Type 0} {before after : Bytes}
+    {s : Said} → (Right → Whole) → ((n p : ℕ) → Fault n p → Listed n p) → ((c : ℕ) (x : Bytes) → Done c x → Made c x)
+    → Outcome room Right Fault Done before s after → Outcome room Whole Listed Made before s after
+outcome-as whole listed made (done room right work) = done room (whole right) (made _ _ work)
+outcome-as whole listed made (short less) = short less
+outcome-as whole listed made (turned-away room fault) = turned-away room (listed _ _ fault)
+
+-- and a fault of what comes behind is one of what else may stand there
+pub in-turn-as : {Right : Type 0} {First Behind Other : ℕ → ℕ → Type 0} → ((n p : ℕ) → Behind n p → Other n p)
+    → (n p : ℕ) → InTurn Right First Behind n p → InTurn Right First Other n p
+in-turn-as other n p (first fault) = first fault
+in-turn-as other n p (behind right fault) = behind right (other n p fault)
 
 module _ {Right : Type 0} {Fault : ℕ → ℕ → Type 0} {size : ℕ} where
   -- a right input is counted
@@ -41,9 +56,7 @@ module _ {Right : Type 0} {Fault : ℕ → ℕ → Type 0} {size : ℕ} where
   -- a check of one thing is a check of another that is right where it is right and has its faults
   pub checked-as : {Whole : Type 0} {Listed : ℕ → ℕ → Type 0} {s : Said}
       → (Right → Whole) → ((n p : ℕ) → Fault n p → Listed n p) → Checked Right Fault size s → Checked Whole Listed size s
-  checked-as whole listed (done room right made) = done room (whole right) made
-  checked-as whole listed (short less) = absurd (omega arith)
-  checked-as whole listed (turned-away room fault) = turned-away room (listed _ _ fault)
+  checked-as whole listed h = outcome-as whole listed (λ c x made. made) h
 
 -- records that are checked one by one: a fault of record i is the lowest, where the records before it are right
 pub lowest-refused : {Right : ℕ → Type 0} {Fault : ℕ → ℕ → Type 0} {size i n : ℕ} {s : Said}
