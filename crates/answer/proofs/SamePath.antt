@@ -1,5 +1,4 @@
 -- Two tables of one path have the same answers on every roll: call 3 comes out for both in one way. Assumes nothing.
-use Prim.Native.Nat.{ℕ}
 use mathlib.Core.Path.{_≡_}
 use Rattle.reply.specs.Reply.{Said}
 use Rattle.reply.specs.Bytes.{Bytes}

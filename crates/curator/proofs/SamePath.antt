@@ -1,5 +1,4 @@
 -- Two tables of one path have the same answers on every view: call 6 comes out for both in one way. Assumes nothing.
-use Prim.Native.Nat.{ℕ}
 use mathlib.Core.Path.{_≡_}
 use Rattle.reply.specs.Reply.{Said}
 use Rattle.reply.specs.Bytes.{Bytes}
@@ -7,7 +6,7 @@ use Rattle.reply.proofs.Checking.{outcome-as, in-turn-as}
 use Rattle.query.specs.Table.{entries, queryOf}
 use Rattle.query.specs.Fault.{curators, Query}
 use Rattle.query.proofs.Unique.{query-wrong}
-use Rattle.curator.specs.Promise.{ViewAnswered, CuratorAnswered}
+use Rattle.curator.specs.Promise.{CuratorAnswered}
 use Rattle.curator.proofs.Unique.{curator-answered-one}
 
 -- what is answered for the one table is answered for the other

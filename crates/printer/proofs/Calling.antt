@@ -1,7 +1,7 @@
 -- How printing comes to its reply. Assumes nothing.
 use Prim.Native.Nat.{ℕ, _-_, _≤_, _<_}
 use native.Mathlib.Omega.{arith}
-use mathlib.Core.Path.{_≡_, refl, sym, ap, _∙_, subst}
+use mathlib.Core.Path.{_≡_, refl, sym, ap, _∙_}
 use mathlib.Core.List.{[], _∷_, _++_}
 use lib.ListN.{length, take, drop, length-take}
 use lib.Seq.{take-length, length-take-le}
@@ -15,8 +15,7 @@ use Rattle.reply.specs.Outcome.{first, behind, done, short, turned-away}
 use Rattle.reply.proofs.Reply as the-reply
 use Rattle.reply.proofs.Checking.{faulted}
 use Rattle.query.specs.Kind.{path}
-use Rattle.query.specs.Syntax.{Path}
-use Rattle.query.specs.Table.{Entries, entries, EntryRight, pathAt, queryOf}
+use Rattle.query.specs.Table.{Entries, entries, queryOf}
 use Rattle.query.specs.Fault.{curators, last, Query}
 use Rattle.query.proofs.Tables.{entries-length}
 use Rattle.tables.specs.Promise.{QueryChecked}
@@ -36,8 +35,8 @@ module _ (table before : Bytes) where
   too-short l e = rw e (short l)
 
   -- the table is refused
-  pub refused-table : (r : Reply) → OneOf (1 ∷ []) (tagOf the-reply.the-type r) → QueryChecked curators table (said r) → 1024 ≤ length before
-      → TablePrinted table before (said r) before
+  pub refused-table : (r : Reply) → OneOf (1 ∷ []) (tagOf the-reply.the-type r) → QueryChecked curators table (said r)
+      → 1024 ≤ length before → TablePrinted table before (said r) before
   unfolding TablePrinted PrintFault
   refused-table (Count c) no-such x room = absurd (omega arith)
   refused-table (Refused f) u x room = turned-away room (first (faulted x))
@@ -99,7 +98,8 @@ module _ {table : Bytes} (query : Query curators table) where
         })
 
     -- it does not
-    pub not-printed : {s : Said} (before : Bytes) → end ≡ Full → 1024 ≤ length before → s ≡ refused 18 0 → TablePrinted table before s before
+    pub not-printed : {s : Said} (before : Bytes) → end ≡ Full → 1024 ≤ length before → s ≡ refused 18 0
+        → TablePrinted table before s before
     unfolding TablePrinted PrintFault
     not-printed before e enough says = rw says (turned-away enough (behind query (too-long fewest (go (rw e at held)))))
       where

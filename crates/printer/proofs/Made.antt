@@ -1,15 +1,15 @@
 -- The text of an entry is made of those of its operands, by its kind. Assumes nothing.
 use Prim.Native.Nat.{ℕ, _+_, _≤_, _<_}
 use native.Mathlib.Omega.{arith}
-use mathlib.Core.Path.{_≡_, refl, sym, ap, ap₂, _∙_}
-use mathlib.Core.Bool.{true, cond}
+use Prim.Native.Char.{code}
+use mathlib.Core.Path.{_≡_, refl, sym, ap, _∙_}
+use mathlib.Core.Bool.{true}
 use mathlib.Core.List.{List, [], _∷_, _++_}
-use mathlib.Core.Option.{Option, none, some}
+use mathlib.Core.Option.{none, some}
 use borrow.Author.Tests.{le-leb, lt-leb}
 use lib.ListN.{length, getD, take}
 use Rattle.reply.specs.Bytes.{Bytes}
 use Rattle.query.specs.Syntax as syntax
-use Rattle.query.specs.Syntax.{Path, Filter}
 use Rattle.tree.specs.Tree.{Label}
 use Rattle.query.specs.Kind.{Sort, path, filter, unused, of, labelled, Row, kinds, find, rowOf}
 use Rattle.query.specs.Table.{Entry, Entries, entries, entryAt, rowAt, HasSort, OperandField, EntryRight, Meant, a-path, a-filter}
@@ -18,7 +18,7 @@ use Rattle.query.proofs.Rows.{Each, _&_, no-more, row-found}
 use Rattle.query.proofs.Tables.{read-at}
 use Rattle.query.proofs.Standing as standing
 use Rattle.shortest.proofs.Shown.{pathRank, filterRank, between, held, pathHeld, filterHeld, labelShown, pathShown, filterShown}
-use Rattle.printer.specs.Printing.{meantShown, meantHeld, meantAt, entryShown, entryHeld, symbols, ranks, openingFor, closingFor}
+use Rattle.printer.specs.Printing.{HasEntry, meantShown, meantHeld, meantAt, entryShown, entryHeld, symbols, ranks, openingFor, closingFor}
 
 -- what an entry of a sort stands for
 abbrev asMeant : Sort → Entries → ℕ → Meant
@@ -75,7 +75,8 @@ module _ (es : Entries) (i : ℕ) (within : i < length es) where
 abbrev HeldBy : List Meant → Entry → ℕ → Row → Type 0
 HeldBy before e least row =
     meantHeld least (build before (row .kind) e)
-    ≡ held (openingFor (row .number)) (closingFor (row .number)) least (getD ranks (row .number) 0) (meantShown (build before (row .kind) e))
+    ≡ held (openingFor (row .number)) (closingFor (row .number)) least (getD ranks (row .number) 0)
+    (meantShown (build before (row .kind) e))
 
 built-held : (before : List Meant) (e : Entry) (least : ℕ) → Each (HeldBy before e least) kinds
 unfolding build kinds pathHeld filterHeld pathRank filterRank
@@ -83,9 +84,16 @@ built-held before e least =
     refl & refl & refl & refl & refl & refl & refl & refl & refl & refl & refl & refl & refl & refl & refl & refl & no-more
 
 -- An entry e of a table in order, of a listed kind.
-module _ (es : Entries) (order : (i : ℕ) → i < length es → EntryRight es i) (e : ℕ) (within : e < length es) where
+module _ {table : Bytes} {e : ℕ} (has : HasEntry table e) where
+  abbrev es : Entries
+  es = entries table
+
   abbrev own : Entry
   own = entryAt es e
+
+  -- it is in order
+  right : EntryRight es e
+  right = has .order e (has .within)
 
   -- it has its kind's sort
   of-sort : (kind : ℕ) {row : Row} → rowOf kind ≡ some row → own .kind ≡ kind → HasSort es e (row .sort)
@@ -102,31 +110,31 @@ module _ (es : Entries) (order : (i : ℕ) → i < length es → EntryRight es i
       → shownAs s es e ≡ f (heldAs t least es (own .left)) → (own .left < e) × (entryShown es e ≡ f (entryHeld least es (own .left)))
   unfolding OperandField
   around s t least f sort operand same =
-      (operand .0, shown-as es e within s sort ∙ same ∙ ap f (sym (operand-held t (own .left) operand least)))
+      (operand .0, shown-as es e (has .within) s sort ∙ same ∙ ap f (sym (operand-held t (own .left) operand least)))
 
-  pub stay-shown : own .kind ≡ 6 → (own .left < e) × (entryShown es e ≡ 91 ∷ entryHeld 0 es (own .left) ++ 93 ∷ [])
+  pub stay-shown : own .kind ≡ 6 → (own .left < e) × (entryShown es e ≡ code "[" ∷ entryHeld 0 es (own .left) ++ code "]" ∷ [])
   unfolding kinds find pathShown between filterHeld
   stay-shown is =
-      let (f, same) = standing.stay-stands es e within own refl (order e within) is in
-      around path filter 0 (λ x. 91 ∷ x ++ 93 ∷ []) (of-sort 6 refl is) f (rw (same, bare) refl)
+      let (f, same) = standing.stay-stands es e (has .within) own refl right is in
+      around path filter 0 (λ x. code "[" ∷ x ++ code "]" ∷ []) (of-sort 6 refl is) f (rw (same, bare) refl)
 
-  pub star-shown : own .kind ≡ 9 → (own .left < e) × (entryShown es e ≡ entryHeld 2 es (own .left) ++ 42 ∷ [])
+  pub star-shown : own .kind ≡ 9 → (own .left < e) × (entryShown es e ≡ entryHeld 2 es (own .left) ++ code "*" ∷ [])
   unfolding kinds find pathShown
   star-shown is =
-      let (f, same) = standing.star-stands es e within own refl (order e within) is in
-      around path path 2 (λ x. x ++ 42 ∷ []) (of-sort 9 refl is) f (ap pathShown same)
+      let (f, same) = standing.star-stands es e (has .within) own refl right is in
+      around path path 2 (λ x. x ++ code "*" ∷ []) (of-sort 9 refl is) f (ap pathShown same)
 
   pub leads-shown : own .kind ≡ 17 → (own .left < e) × (entryShown es e ≡ entryHeld 0 es (own .left))
   unfolding kinds find filterShown pathHeld
   leads-shown is =
-      let (f, same) = standing.leads-stands es e within own refl (order e within) is in
+      let (f, same) = standing.leads-stands es e (has .within) own refl right is in
       around filter path 0 (λ x. x) (of-sort 17 refl is) f (rw (same, bare) refl)
 
-  pub not-shown : own .kind ≡ 20 → (own .left < e) × (entryShown es e ≡ 33 ∷ entryHeld 2 es (own .left))
+  pub not-shown : own .kind ≡ 20 → (own .left < e) × (entryShown es e ≡ code "!" ∷ entryHeld 2 es (own .left))
   unfolding kinds find filterShown
   not-shown is =
-      let (f, same) = standing.not-stands es e within own refl (order e within) is in
-      around filter filter 2 (λ x. 33 ∷ x) (of-sort 20 refl is) f (ap filterShown same)
+      let (f, same) = standing.not-stands es e (has .within) own refl right is in
+      around filter filter 2 (λ x. code "!" ∷ x) (of-sort 20 refl is) f (ap filterShown same)
 
   -- two operands, joined by a byte: the right one is held one rank tighter
   abbrev pub Joined : ℕ → ℕ → Type 0
@@ -138,38 +146,41 @@ module _ (es : Entries) (order : (i : ℕ) → i < length es → EntryRight es i
       → shownAs s es e ≡ heldAs s rank es (own .left) ++ byte ∷ heldAs s (rank + 1) es (own .right) → Joined rank byte
   unfolding OperandField
   joined s rank byte sort f g same =
-      (f .0, g .0, shown-as es e within s sort ∙ rw (same, operand-held s (own .left) f rank, operand-held s (own .right) g (rank + 1)))
+      let held-left = operand-held s (own .left) f rank in
+      let held-right = operand-held s (own .right) g (rank + 1) in
+      (f .0, g .0, shown-as es e (has .within) s sort ∙ rw (same, held-left, held-right))
 
-  then-shown : own .kind ≡ 7 → Joined 1 47
+  then-shown : own .kind ≡ 7 → Joined 1 (code "/")
   unfolding kinds find pathShown
   then-shown is =
-      let ((f, g), same) = standing.then-stands es e within own refl (order e within) is in
-      joined path 1 47 (of-sort 7 refl is) f g (ap pathShown same)
+      let ((f, g), same) = standing.then-stands es e (has .within) own refl right is in
+      joined path 1 (code "/") (of-sort 7 refl is) f g (ap pathShown same)
 
-  either-shown : own .kind ≡ 8 → Joined 0 124
+  either-shown : own .kind ≡ 8 → Joined 0 (code "|")
   unfolding kinds find pathShown pathHeld
   either-shown is =
-      let ((f, g), same) = standing.either-stands es e within own refl (order e within) is in
-      joined path 0 124 (of-sort 8 refl is) f g (rw (same, bare) refl)
+      let ((f, g), same) = standing.either-stands es e (has .within) own refl right is in
+      joined path 0 (code "|") (of-sort 8 refl is) f g (rw (same, bare) refl)
 
-  and-shown : own .kind ≡ 21 → Joined 1 38
+  and-shown : own .kind ≡ 21 → Joined 1 (code "&")
   unfolding kinds find filterShown
   and-shown is =
-      let ((f, g), same) = standing.and-stands es e within own refl (order e within) is in
-      joined filter 1 38 (of-sort 21 refl is) f g (ap filterShown same)
+      let ((f, g), same) = standing.and-stands es e (has .within) own refl right is in
+      joined filter 1 (code "&") (of-sort 21 refl is) f g (ap filterShown same)
 
-  or-shown : own .kind ≡ 22 → Joined 0 43
+  or-shown : own .kind ≡ 22 → Joined 0 (code "+")
   unfolding kinds find filterShown filterHeld
   or-shown is =
-      let ((f, g), same) = standing.or-stands es e within own refl (order e within) is in
-      joined filter 0 43 (of-sort 22 refl is) f g (rw (same, bare) refl)
+      let ((f, g), same) = standing.or-stands es e (has .within) own refl right is in
+      joined filter 0 (code "+") (of-sort 22 refl is) f g (rw (same, bare) refl)
 
   -- by its rank and its symbol: only the kinds that join two are so loose
   pub joined-shown : getD ranks (own .kind) 0 < 2 → Joined (getD ranks (own .kind) 0) (getD symbols (own .kind) 0)
   unfolding kinds rowAt
   joined-shown l =
       let (joins, number) =
-      row-found (λ row. row .number ≡ own .kind → getD ranks (row .number) 0 < 2 → Joined (getD ranks (row .number) 0) (getD symbols (row .number) 0)) (
+      row-found (λ row.
+      row .number ≡ own .kind → getD ranks (row .number) 0 < 2 → Joined (getD ranks (row .number) 0) (getD symbols (row .number) 0)) (
       (λ q l. absurd (omega arith))
       & (λ q l. absurd (omega arith))
       & (λ q l. absurd (omega arith))
@@ -187,25 +198,24 @@ module _ (es : Entries) (order : (i : ℕ) → i < length es → EntryRight es i
       & (λ q l. and-shown (sym q))
       & (λ q l. or-shown (sym q))
       & no-more
-      ) (order e within .listed) in
+      ) (right .listed) in
       rw number at (joins number (rw number l))
 
-  pub label-shown : own .kind ≡ 16 → (own .label ≤ 64) × (entryShown es e ≡ 35 ∷ labelShown (own .label))
+  pub label-shown : own .kind ≡ 16 → (own .label ≤ 64) × (entryShown es e ≡ code "#" ∷ labelShown (own .label))
   unfolding kinds find filterShown build theFilter LabelField rowAt
   label-shown is =
-      let r = order e within in
       let row : Row = record { number = 16; kind = labelled; sort = filter; left = unused; right = unused; label = true } in
-      let same : some (r .row) ≡ some row = sym (r .listed) ∙ ap rowOf is in
-      let same-row : r .row ≡ row = cc in
-      let label : Label (own .label) = rw same-row at (r .label) in
-      (label .most, shown-as es e within filter (of-sort 16 refl is) ∙ ap filterShown (standing.filter-stands es e within own refl 16 _ refl is))
+      let same : some (right .row) ≡ some row = sym (right .listed) ∙ ap rowOf is in
+      let same-row : right .row ≡ row = cc in
+      let label : Label (own .label) = rw same-row at (right .label) in
+      let stands = standing.filter-stands es e (has .within) own refl 16 _ refl is in
+      (label .most, shown-as es e (has .within) filter (of-sort 16 refl is) ∙ ap filterShown stands)
 
   -- A kind that takes neither operands nor a label is one byte: by the rows of the kinds' list, where every other row is left out.
   pub leaf-shown : 2 ≤ getD ranks (own .kind) 0 → ¬ (own .kind ≡ 6) → ¬ (own .kind ≡ 9) → ¬ (own .kind ≡ 16) → ¬ (own .kind ≡ 17)
       → ¬ (own .kind ≡ 20) → entryShown es e ≡ getD symbols (own .kind) 0 ∷ []
   unfolding entryShown meanings mean rowAt entryAt build kinds pathShown filterShown
   leaf-shown tight stay star label leads not =
-      let r = order e within in
       let blank : Entry = record { kind = 0; label = 0; left = 0; right = 0 } in
       let before : List Meant = take e (meanings es) in
       let loose : (n : ℕ) → getD ranks n 0 < 2 → ¬ (n ≡ own .kind) = λ n l q. let same = ap (λ (k : ℕ). getD ranks k 0) q in omega arith in
@@ -228,18 +238,17 @@ module _ (es : Entries) (order : (i : ℕ) → i < length es → EntryRight es i
       & (λ q. absurd (loose 21 (omega arith) q))
       & (λ q. absurd (loose 22 (omega arith) q))
       & no-more
-      ) (r .listed) in
-      rw (read-at mean es e (a-path syntax.self) blank within, r .listed, mean) (rw number at (same number))
+      ) (right .listed) in
+      rw (read-at mean es e (a-path syntax.self) blank (has .within), right .listed, mean) (rw number at (same number))
 
   -- in brackets, by its kind: where it is looser than asked for
   pub held-by : (least : ℕ)
       → entryHeld least es e ≡ held (openingFor (own .kind)) (closingFor (own .kind)) least (getD ranks (own .kind) 0) (entryShown es e)
   unfolding entryHeld entryShown meanings mean rowAt entryAt
   held-by least =
-      let r = order e within in
       let blank : Entry = record { kind = 0; label = 0; left = 0; right = 0 } in
-      let (same, number) = row-found (HeldBy (take e (meanings es)) own least) (built-held _ own least) (r .listed) in
-      rw (read-at mean es e (a-path syntax.self) blank within, r .listed, mean) (rw number at same)
+      let (same, number) = row-found (HeldBy (take e (meanings es)) own least) (built-held _ own least) (right .listed) in
+      rw (read-at mean es e (a-path syntax.self) blank (has .within), right .listed, mean) (rw number at same)
 
   module _ (least : ℕ) where
     -- it is tight enough

@@ -9,9 +9,15 @@ use lib.ListN.{length, getD, take}
 use Rattle.reply.specs.Bytes.{Bytes}
 use Rattle.query.specs.Syntax as syntax
 use Rattle.query.specs.Table.{Entries, entries, Meant, a-path, a-filter, meanings}
+use Rattle.tables.specs.Promise.{EntriesRight}
 use Rattle.shortest.proofs.Shown.{pathHeld, filterHeld, pathShown, filterShown}
 use Rattle.printer.specs.declared.spot.Spot.{Spot}
 use Rattle.printer.specs.declared.spot.Spot.the-variants.{At, Full}
+
+-- A table whose entries are in order has an entry e.
+pub record HasEntry (table : Bytes) (e : ℕ) : Type 0 where
+  pub order : EntriesRight table
+  pub within : e < length (entries table)
 
 -- The text so far is x: it stands at the front of the buffer, up to the spot; or it has no room there.
 pub data Holds (x : Bytes) : Spot → Bytes → Type 0 where

@@ -13,15 +13,12 @@ use crate::symbols::rank;
 use crate::symbols::symbol;
 use tables::entry_at;
 use tables::kind_at;
-ghost use Prim.Native.Nat.{_<_};
-ghost use lib.ListN.{length};
 ghost use Rattle.query.specs.Table.{entries};
-ghost use Rattle.tables.specs.Promise.{EntriesRight};
-ghost use Rattle.printer.specs.Printing.{Goes, entryShown, entryHeld};
+ghost use Rattle.printer.specs.Printing.{HasEntry, Goes, entryShown, entryHeld};
 
 // The text of entry e with no brackets around it.
 pub(crate) fn show(table: &[u8], e: usize, out: &mut [u8; 1024], spot: Spot) -> Spot
-    requires { ⌜ EntriesRight (now table) × (e < length (entries (now table))) ⌝ }
+    requires { ⌜ HasEntry (now table) e ⌝ }
     ensures { λ r. ⌜ Goes (entryShown (entries (now (table .entry))) e) (now (out .entry)) spot r (now (out .exit)) ⌝ }
 {
     let entry = entry_at(table, e);
@@ -59,7 +56,7 @@ pub(crate) fn show(table: &[u8], e: usize, out: &mut [u8; 1024], spot: Spot) -> 
 // The text of entry e where at least a rank is asked for: in brackets if it is joined more loosely. A text that is full already is left
 // alone, so that no entry is unfolded for nothing.
 fn hold(table: &[u8], e: usize, least: usize, out: &mut [u8; 1024], spot: Spot) -> Spot
-    requires { ⌜ EntriesRight (now table) × (e < length (entries (now table))) ⌝ }
+    requires { ⌜ HasEntry (now table) e ⌝ }
     ensures { λ r. ⌜ Goes (entryHeld least (entries (now (table .entry))) e) (now (out .entry)) spot r (now (out .exit)) ⌝ }
 {
     let Spot::At(_) = spot else {

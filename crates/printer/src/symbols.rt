@@ -3,7 +3,6 @@ use crate::spot::Spot;
 use crate::spot::put;
 use reply::wide;
 ghost use mathlib.Core.Path.{_≡_};
-ghost use mathlib.Core.List.{_∷_};
 ghost use Prim.Native.Nat.{_≤_};
 ghost use lib.ListN.{getD};
 ghost use Rattle.shortest.proofs.Shown.{labelShown};

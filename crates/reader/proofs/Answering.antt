@@ -15,7 +15,7 @@ use Rattle.reply.specs.Outcome.{done, short, turned-away}
 use Rattle.reply.proofs.Reply as the-reply
 use Rattle.reply.proofs.Checking.{right-counted, faulted}
 use Rattle.query.specs.Syntax.{Path}
-use Rattle.query.specs.Table.{entries, entryBytes}
+use Rattle.query.specs.Table.{entryBytes}
 use Rattle.query.specs.Fault.{curators, Query}
 use Rattle.query.proofs.Unique.{query-wrong}
 use Rattle.tables.specs.Promise.{QueryChecked}

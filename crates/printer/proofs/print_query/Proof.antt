@@ -1,5 +1,4 @@
 -- `print_query`: the room, the check of the table, and the text of its last entry, which fits or does not. Assumes nothing.
-use Prim.Native.Nat.{ℕ, _≤_}
 use native.Mathlib.Omega.{arith}
 use mathlib.Core.Path.{_≡_, sym}
 use borrow.Author.Needs.{needs}
@@ -53,7 +52,7 @@ sub-show c = let (query, count) = checked (c .before) in omega (arith, last-with
 show-requires : tie.Need-show-requires
 show-requires c κs =
     let (query, count) = checked (c .before .before) in
-    (λ i l. query .entry i l .right, omega (arith, last-within query, count))
+    record { order = λ i l. query .entry i l .right; within = omega (arith, last-within query, count) }
 
 enum-known-end : tie.Need-enum-known-end
 enum-known-end c = search needs

@@ -3,9 +3,7 @@ use Prim.Native.Nat.{ℕ, _≤_, _<_}
 use native.Mathlib.Omega.{arith}
 use borrow.Author.Needs.{needs}
 use borrow.Fn.Kinds.{In}
-use denote.Ref.{now}
 use Rattle.tree.proofs.Calls as calls
-use Rattle.query.specs.Table.{entries}
 use Rattle.printer.proofs.Going.{stays-full, and-then}
 use Rattle.printer.proofs.Made.{held-bare, held-between}
 use Rattle.printer.proofs.entries.+hold+show.Proof.Measures.{μ-hold, μ-show}
@@ -25,7 +23,20 @@ abbrev own : ℕ → In 2 hold-kinds.ps
 own = calls.given hold-kinds.ps μ-hold hold.Pre
 
 abbrev claims : ℕ → lts.Claims
-claims t = (kind-at.Asked, kind-at.Learnt, rank.Asked, rank.Learnt, calls.asked show-kinds.ps μ-show show.Pre t, show.Post, opening.Asked, opening.Learnt, put.Asked, put.Learnt, closing.Asked, closing.Learnt)
+claims t = (
+  kind-at.Asked,
+  kind-at.Learnt,
+  rank.Asked,
+  rank.Learnt,
+  calls.asked show-kinds.ps μ-show show.Pre t,
+  show.Post,
+  opening.Asked,
+  opening.Learnt,
+  put.Asked,
+  put.Learnt,
+  closing.Asked,
+  closing.Learnt,
+)
 
 module _ (t : ℕ) where
   enum-told : lts.Need-enum-told (claims t) (own t) hold.Post
@@ -54,9 +65,8 @@ module _ (t : ℕ) where
       let ranked = tight .before in
       let known = ranked .before in
       let start = known .before .before .before .before in
-      let (order, within) = start .pre .1 in
       let enough : start .args .least ≤ ranked .rank .result = search needs in
-      rw (held-bare (entries (now (start .args .table))) order (start .args .e) within (start .args .least)
+      rw (held-bare (start .pre .1) (start .args .least)
       (rw (ranked .rank .ensures, known .kind-at .ensures) at enough))
       (c .show .ensures)
 
@@ -85,13 +95,13 @@ module _ (t : ℕ) where
       let ranked = loose .before in
       let known = ranked .before in
       let start = known .before .before .before .before in
-      let (order, within) = start .pre .1 in
       let few : ranked .rank .result < start .args .least = search needs in
-      rw (held-between (entries (now (start .args .table))) order (start .args .e) within (start .args .least)
+      rw (held-between (start .pre .1) (start .args .least)
       (rw (ranked .rank .ensures, known .kind-at .ensures) at few))
       (and-then
       (rw (opened .before .opening .ensures, known .kind-at .ensures) at (opened .put .ensures))
       (and-then (shown .show2 .ensures) (rw (c .before .closing .ensures, known .kind-at .ensures) at (c .put2 .ensures))))
 
   pub meets : {M : Type 1} → lts.Closed (claims t) (own t) hold.Post M
-  meets = lts.spec (claims t) (own t) hold.Post enum-told enum-told-2 returns kind-at-requires rank-requires show-requires returns-2 opening-requires put-requires show-requires-2 closing-requires put-requires-2 returns-3
+  meets = lts.spec (claims t) (own t) hold.Post enum-told enum-told-2 returns kind-at-requires rank-requires show-requires returns-2
+      opening-requires put-requires show-requires-2 closing-requires put-requires-2 returns-3

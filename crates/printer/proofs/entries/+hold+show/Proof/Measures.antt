@@ -1,4 +1,5 @@
--- The measures of the printer's functions, which call each other: the entry number falls, and brackets stand above their entry. Assumes nothing.
+-- The measures of the printer's functions, which call each other: the entry number falls, and brackets stand above their entry.
+-- Assumes nothing.
 use Prim.Native.Nat.{ℕ, _+_, _*_}
 use borrow.Fn.PlainCycle.{Measures}
 use Rattle.printer.proofs.entries.hold.Kinds as hold-kinds
