@@ -1,4 +1,4 @@
-/* The seven calls of Kepolas for C and C++. The library is written by `rt staticlib kepolas` to target/staticlib/libkepolas.a.
+/* The seven calls of Kepolas, and printing, for C and C++. `rt staticlib kepolas` writes the library to target/staticlib/libkepolas.a.
  * docs/MANUAL.md has all rules; what a call promises is proved (crates/kepolas/src/lib.rt). These declarations are not, but a test holds
  * them to that source (rust/tests/declarations.rs).
  *
@@ -7,8 +7,8 @@
  * - What is lent for writing (room, told, start, end) must overlap nothing else that is handed over. What is only read may overlap.
  * - The library keeps no state and takes no memory but stack, so the calls are reentrant and may run in several threads at once.
  * - Any bytes and any numbers may be handed in: a call checks its inputs itself.
- * - Calls 1 to 6 return 0 and write a count to told, or return a refusal's number and write its place there. A refused call changes no byte
- *   of the room.
+ * - Calls 1 to 6 and printing return 0 and write a count to told, or return a refusal's number and write its place there. A refused call
+ *   changes no byte of the room.
  * - Stack, measured and not proved: call 3 takes at most about 719 KB, call 6 about 234 KB, call 4 about 159 KB. */
 #ifndef KEPOLAS_H
 #define KEPOLAS_H
@@ -27,7 +27,7 @@ extern "C" {
 
 /* Bytes of the longest input that is accepted. */
 #define KEPOLAS_ROLL_LIMIT 16384     /* 4,096 nodes */
-#define KEPOLAS_QUERY_LIMIT 1536     /* a curator's query, for calls 5 and 6: 256 entries, height 32 */
+#define KEPOLAS_QUERY_LIMIT 1536     /* a curator's query, for calls 5 and 6 and printing: 256 entries, height 32 */
 #define KEPOLAS_FILTER_LIMIT 1536    /* 256 entries, height 16 */
 #define KEPOLAS_ANNOTATION_LIMIT 192 /* 32 records */
 #define KEPOLAS_ANSWERED_LIMIT 6144  /* a query answered on a roll, for call 3: 1,024 entries, height 128 */
@@ -88,7 +88,7 @@ uint64_t kepolas_curators_answer(const uint8_t *roll, size_t roll_len, const uin
  * among them. A bad roll or a record that is not in it gives 0 and 0. */
 void kepolas_run_of(const uint8_t *roll, size_t roll_len, size_t k, size_t *start, size_t *end);
 
-/* Prints a curator's query table as text, with the fewest brackets that keep its grouping. Counts the bytes written. */
+/* Printing: writes a curator's query table as text, with the fewest brackets that keep its grouping. Counts the bytes written. */
 uint64_t kepolas_print_query(const uint8_t *query, size_t query_len, uint8_t *room, size_t room_len, size_t *told);
 
 #ifdef __cplusplus

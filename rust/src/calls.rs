@@ -49,6 +49,11 @@ extern "C" {
         told: *mut usize,
     ) -> u64;
     pub fn kepolas_run_of(roll: *const u8, roll_len: usize, k: usize, start: *mut usize, end: *mut usize);
-    pub fn kepolas_print_query(query: *const u8, query_len: usize, room: *mut u8, room_len: usize, told: *mut usize)
-        -> u64;
+    pub fn kepolas_print_query(
+        query: *const u8,
+        query_len: usize,
+        room: *mut u8,
+        room_len: usize,
+        told: *mut usize,
+    ) -> u64;
 }

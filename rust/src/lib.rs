@@ -1,4 +1,5 @@
-//! The seven calls of Kepolas, a query engine for protected views, as safe functions over the proved library.
+//! The seven calls of Kepolas, a query engine for protected views, and the printing of queries, as safe functions over the
+//! proved library.
 //!
 //! `docs/MANUAL.md` has all rules: what rolls, tables and annotations are, what a query means, what is refused. A call
 //! checks its inputs itself, so any bytes may be handed in. It answers with a count, or with a [`Refusal`]: a reason, which
@@ -273,23 +274,15 @@ pub fn run_of(roll: &[u8], record: usize) -> &[u8] {
     &roll[start..end]
 }
 
-/// The positions that are set in a bitmap, ascending: k is the bit of weight 2^(k mod 8) in byte k div 8.
+/// Printing: writes a curator's query table (to 256 entries, height 32) as text, with the fewest brackets that keep its
+/// grouping, and gives the number of bytes. Bytes of the room behind them stay as they were. A table that [`read_text`]
+/// wrote is always printed, and its text is read as the same bytes. The text of any other is read as a query with the same
+/// answers on every roll, or refused with [`TableTooLarge`](Reason::TableTooLarge), since it has written out what the table
+/// shares.
 ///
-/// ```
-/// assert!(kepolas::positions(&[0b0100_0010, 1]).eq([1, 6, 8]));
-/// ```
-pub fn positions(bitmap: &[u8]) -> impl Iterator<Item = usize> + '_ {
-    (0..8 * bitmap.len()).filter(|k| bitmap[k / 8] >> (k % 8) & 1 == 1)
-}
-
-/// Prints a curator's query table (to 256 entries, height 32) as text, with the fewest brackets that keep its grouping, and gives the
-/// number of bytes. Bytes of the room behind them stay as they were. A table that [`read_text`] wrote is always printed, and its text is
-/// read as the same bytes.
-///
-/// Refuses with [`ShortRoom`](Reason::ShortRoom) where the room is shorter than [`rooms::TEXT`]; then with
-/// [`QueryTable`](Reason::QueryTable) for the query's length, for its lowest entry that is not in order with
-/// [`EntryMalformed`](Reason::EntryMalformed) or [`EntryHeight`](Reason::EntryHeight), and with `QueryTable` where its last entry is no
-/// path; then with [`TextTooLong`](Reason::TextTooLong) where the text is longer than 1,024 bytes. A refused call changes no byte of the
+/// Refuses with [`ShortRoom`](Reason::ShortRoom) where the room is shorter than [`rooms::TEXT`]; then as
+/// [`answer_on_roll`] for the query, with the limits of a curator's query; then with
+/// [`TextTooLong`](Reason::TextTooLong) where the text is longer than 1,024 bytes. A refused call changes no byte of the
 /// room.
 ///
 /// ```
@@ -306,4 +299,13 @@ pub fn print_query(query: &[u8], room: &mut [u8]) -> Result<usize, Refusal> {
     let number =
         unsafe { calls::kepolas_print_query(query.as_ptr(), query.len(), room.as_mut_ptr(), room.len(), &mut told) };
     heard(number, told)
+}
+
+/// The positions that are set in a bitmap, ascending: k is the bit of weight 2^(k mod 8) in byte k div 8.
+///
+/// ```
+/// assert!(kepolas::positions(&[0b0100_0010, 1]).eq([1, 6, 8]));
+/// ```
+pub fn positions(bitmap: &[u8]) -> impl Iterator<Item = usize> + '_ {
+    (0..8 * bitmap.len()).filter(|k| bitmap[k / 8] >> (k % 8) & 1 == 1)
 }

@@ -59,7 +59,7 @@ fn proved() -> Vec<String> {
 #[test]
 fn the_crate_declares_the_functions_of_the_proved_source() {
     let declared = heads(DECLARED, "pub fn ", ";").map(|head| line(&head, result(&head), str::to_string));
-    assert_eq!(proved().len(), 7);
+    assert_eq!(proved().len(), 8);
     assert_eq!(declared.collect::<Vec<_>>(), proved());
 }
 
@@ -67,5 +67,9 @@ fn the_crate_declares_the_functions_of_the_proved_source() {
 fn the_header_declares_the_functions_of_the_proved_source() {
     let counting = heads(HEADER, "\nuint64_t ", ";").map(|head| line(&head, " -> u64", from_c));
     let silent = heads(HEADER, "\nvoid ", ";").map(|head| line(&head, "", from_c));
-    assert_eq!(counting.chain(silent).collect::<Vec<_>>(), proved());
+    let (mut declared, mut proved): (Vec<String>, _) = (counting.chain(silent).collect(), proved());
+    // These have the function that returns nothing last; the source has not.
+    declared.sort();
+    proved.sort();
+    assert_eq!(declared, proved);
 }

@@ -43,7 +43,8 @@ fn the_reasons_are_those_of_the_proved_code_and_of_the_header() {
 
 #[test]
 fn the_rooms_are_those_of_the_header() {
-    let rooms = [("TABLE", rooms::TABLE), ("BITMAP", rooms::BITMAP), ("REWRITTEN", rooms::REWRITTEN), ("TEXT", rooms::TEXT)];
+    let rooms =
+        [("TABLE", rooms::TABLE), ("BITMAP", rooms::BITMAP), ("REWRITTEN", rooms::REWRITTEN), ("TEXT", rooms::TEXT)];
     for (name, room) in rooms {
         assert!(HEADER.contains(&format!("#define KEPOLAS_{name}_ROOM {room} ")), "{name}");
     }
@@ -52,5 +53,5 @@ fn the_rooms_are_those_of_the_header() {
 #[test]
 fn each_reason_has_a_name_of_its_own() {
     let names: std::collections::HashSet<_> = (0..=100).filter_map(Reason::of).map(Reason::name).collect();
-    assert_eq!(names.len(), 17);
+    assert_eq!(names.len(), 18);
 }
