@@ -1,17 +1,18 @@
 //! Inputs of each call drawn by chance: small ones and such that come up to the limits, as they grow or damaged, with rooms that are too
 //! short, as named and longer.
 
-use second::table::{Limits, CURATORS_QUERY, FILTER_TABLE, QUERY_ON_ROLL};
+use second::table::{Limits, CURATORS_QUERY, ENTRY_BYTES, FILTER_TABLE, QUERY_ON_ROLL};
+use second::Reply;
 
 use crate::annotated::Annotated;
 use crate::chance::Chance;
 use crate::damage::{break_annotation, break_roll, break_table};
-use crate::labels::Labels;
+use crate::labels::{any_labels, Labels};
 use crate::outcomes::*;
 use crate::records::{chain, grown_roll, labelled, wide, MOST_NODES};
-use crate::same::{self, BITMAP_ROOM, REWRITE_ROOM, TEXT_ROOM};
+use crate::same::{self, BITMAP_ROOM, PRINTING, PRINT_ROOM, REWRITE_ROOM, TEXT_ROOM};
 use crate::seen::{outcome, Kind, Seen};
-use crate::tables::{Table, LABELS};
+use crate::tables::{table_of, Table, LABELS};
 use crate::texts::some_text;
 
 /// A call with the draw of one input, and the outcomes that draws have to reach.
@@ -55,7 +56,7 @@ impl Drop for Told {
     }
 }
 
-pub const CALLS: [Call; 7] = [
+pub const CALLS: [Call; 8] = [
     Call { number: 1, draw: check_roll, expected: &[OF_ROLL, &[(0, "nodes"), (0, "4,096 nodes")]] },
     Call { number: 2, draw: read_text, expected: &[OF_ROOM, OF_TEXT] },
     Call { number: 3, draw: answer_on_roll, expected: &[OF_ROOM, OF_ROLL, OF_QUERY, OF_ANSWERS, OF_GREATEST_QUERIES] },
@@ -93,6 +94,7 @@ pub const CALLS: [Call; 7] = [
         ],
     },
     Call { number: 7, draw: run_of_record, expected: &[OF_RUNS] },
+    Call { number: PRINTING, draw: print_query, expected: &[OF_ROOM, OF_QUERY, OF_GREATEST_QUERIES, OF_PRINTED] },
 ];
 
 /// A roll of few nodes, of some hundred, or of about as many as there may be; and whether it is one of these. A chain is no longer than
@@ -305,6 +307,71 @@ fn curators_answer(chance: &mut Chance, seen: &mut Seen) {
             let mut on_roll = [0; BITMAP_ROOM];
             crate::answer_on_roll(&input.roll, &query, &mut on_roll);
             seen.note(0, if bitmap == on_roll { "as on the roll" } else { "other than on the roll" });
+        }
+    }
+}
+
+/// The table of a text by chance, or of a plain one where that is refused.
+fn some_read(chance: &mut Chance) -> Vec<u8> {
+    let (text, mut room) = (some_text(chance), [0; TEXT_ROOM]);
+    match crate::read_text(&text, &mut room) {
+        Reply::Count(entries) => room[..entries * ENTRY_BYTES].to_vec(),
+        Reply::Refused { .. } => table_of("v"),
+    }
+}
+
+/// A query whose text has so many bytes, which are more than a small one has.
+fn query_of_length(chance: &mut Chance, bytes: usize) -> Vec<u8> {
+    let tries = 1 + chance.below(40);
+    let mut table = Table::within(20, 200).grown(chance, tries).ended(chance);
+    any_labels(chance, &mut table.bytes);
+    let reply = second::print_query(&table.bytes, &mut [0; PRINT_ROOM]);
+    let Reply::Count(printed) = reply else { panic!("a small query is not printed: {reply}") };
+    table.lengthened(chance, printed, bytes).bytes
+}
+
+/// A query of entries that share others, and so may stand for more text than could ever be written.
+fn doubled_query(chance: &mut Chance) -> Vec<u8> {
+    let (tries, storeys) = (chance.below(16), chance.below(25));
+    Table::within(6, 40).grown(chance, tries).doubled(chance, storeys).ended(chance).bytes
+}
+
+/// A query to be printed, and the bytes of its text, if it was made for that.
+fn some_printed(chance: &mut Chance) -> (Vec<u8>, Option<usize>) {
+    if chance.one_in(8) {
+        let bytes = chance.pick(&[PRINT_ROOM - 1, PRINT_ROOM, PRINT_ROOM + 1]);
+        return (query_of_length(chance, bytes), Some(bytes));
+    }
+    let mut query = match chance.below(3) {
+        0 => some_read(chance),
+        1 => some_query(chance, CURATORS_QUERY, 300),
+        _ => doubled_query(chance),
+    };
+    any_labels(chance, &mut query);
+    (query, None)
+}
+
+fn print_query(chance: &mut Chance, seen: &mut Seen) {
+    let (mut query, made) = some_printed(chance);
+    if made.is_none() && chance.one_in(2) {
+        for _ in 0..1 + chance.below(2) {
+            break_table(chance, &mut query, CURATORS_QUERY);
+        }
+    }
+    let room = some_room(chance, PRINT_ROOM);
+    let (reply, text) = same::print_query(&query, room);
+    note_room(seen, reply, room, PRINT_ROOM);
+    match outcome(reply) {
+        Err((1, _)) => {}
+        Err((18, _)) => {
+            assert!(made.is_none_or(|bytes| bytes > PRINT_ROOM), "a text of {made:?} bytes is too long");
+            seen.note(18, if made.is_some() { "a text of 1,025 bytes" } else { "shared entries" });
+        }
+        Err(refused) => note_query(seen, refused, &query, CURATORS_QUERY),
+        Ok(bytes) => {
+            assert!(made.is_none_or(|made| made == bytes), "a text of {made:?} bytes has {bytes}");
+            note_printed(seen, &query, &text);
+            note_greatest_query(seen, &query, CURATORS_QUERY);
         }
     }
 }

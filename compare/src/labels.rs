@@ -44,3 +44,10 @@ impl Labels {
         }
     }
 }
+
+/// Gives each filter that asks for a label any of the 64, for itself: in printing no two have to meet.
+pub fn any_labels(chance: &mut Chance, table: &mut [u8]) {
+    for entry in table.chunks_exact_mut(6).filter(|entry| entry[0] == LABELLED) {
+        entry[1] = 1 + chance.below(64) as u8;
+    }
+}

@@ -54,12 +54,12 @@ pub fn curators_answer(roll: &[u8], annotation: &[u8], filters: &[u8], query: &[
     reply(kepolas::curators_answer(roll, annotation, filters, query, room))
 }
 
-/// Printing.
-pub fn print_query(query: &[u8], room: &mut [u8]) -> Reply {
-    reply(kepolas::print_query(query, room))
-}
-
 /// Call 7.
 pub fn run_of_record(roll: &[u8], record: usize) -> &[u8] {
     kepolas::run_of(roll, record)
+}
+
+/// Printing.
+pub fn print_query(query: &[u8], room: &mut [u8]) -> Reply {
+    reply(kepolas::print_query(query, room))
 }

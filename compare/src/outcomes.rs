@@ -4,6 +4,7 @@ use second::table::{heights, read_filters, read_query, Limits, CURATORS_QUERY, E
 use second::Reply;
 
 use crate::annotated::Annotated;
+use crate::same::{PRINT_ROOM, TEXT_ROOM};
 use crate::seen::{outcome, Kind, Seen};
 
 pub const OF_ROOM: &[Kind] =
@@ -76,6 +77,20 @@ pub const OF_RUNS: &[Kind] = &[
     (0, "the record alone"),
     (0, "nothing, of a bad roll"),
     (0, "nothing, no such record"),
+];
+/// Of printing, behind the query's refusals.
+pub const OF_PRINTED: &[Kind] = &[
+    (18, "a text of 1,025 bytes"),
+    (18, "shared entries"),
+    (0, "a text of 1,024 bytes"),
+    (0, "a text with ("),
+    (0, "a text with {"),
+    (0, "a text with ["),
+    (0, "a label of two digits"),
+    (0, "read as the same bytes"),
+    (0, "read as other bytes"),
+    (0, "too many entries to be read"),
+    (0, "a short text of too many entries"),
 ];
 
 /// The room of a call that has one: too short, as long as is named for it, or longer. Other refusals say nothing of it.
@@ -178,4 +193,30 @@ pub fn note_asked(seen: &mut Seen, refused: (u8, usize), input: &Annotated, quer
         12 => note_query(seen, refused, query, CURATORS_QUERY),
         _ => note_annotated(seen, refused),
     }
+}
+
+/// A text that was printed: what stands in it, and how it is read.
+pub fn note_printed(seen: &mut Seen, query: &[u8], text: &[u8]) {
+    for (bracket, kind) in [(b'(', "a text with ("), (b'{', "a text with {"), (b'[', "a text with [")] {
+        if text.contains(&bracket) {
+            seen.note(0, kind);
+        }
+    }
+    if text.windows(3).any(|bytes| bytes[0] == b'#' && bytes[2].is_ascii_digit()) {
+        seen.note(0, "a label of two digits");
+    }
+    if text.len() == PRINT_ROOM {
+        seen.note(0, "a text of 1,024 bytes");
+    }
+    let mut room = [0; TEXT_ROOM];
+    let read = crate::read_text(text, &mut room);
+    seen.note(
+        0,
+        match outcome(read) {
+            Err(_) if text.len() > 800 => "too many entries to be read",
+            Err(_) => "a short text of too many entries",
+            Ok(entries) if room[..entries * ENTRY_BYTES] == *query => "read as the same bytes",
+            Ok(_) => "read as other bytes",
+        },
+    );
 }

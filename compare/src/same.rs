@@ -3,16 +3,20 @@
 
 use second::meaning::{Meaning, Nodes};
 use second::roll::{Node, Tree};
-use second::table::{read_query, CURATORS_QUERY, QUERY_ON_ROLL};
+use second::table::{read_query, Entry, CURATORS_QUERY, ENTRY_BYTES, QUERY_ON_ROLL};
 use second::Reply;
 
 use crate::annotated::Annotated;
 use crate::records::to_hex;
 
-/// The rooms that document 01 names; call 4's is as long as the roll.
+/// The rooms that documents 01 and 02 name; call 4's is as long as the roll.
 pub const TEXT_ROOM: usize = 1536;
 pub const BITMAP_ROOM: usize = 512;
 pub const REWRITE_ROOM: usize = 6144;
+pub const PRINT_ROOM: usize = 1024;
+
+/// Printing has no number in the documents; here it goes by the one behind document 01's calls.
+pub const PRINTING: u8 = 8;
 
 /// How many bytes behind a room are looked at too.
 const BEHIND: usize = 16;
@@ -46,6 +50,7 @@ fn line(call: u8, inputs: &[&[u8]], number: usize) -> String {
     let inputs: String = inputs.iter().map(|bytes| format!(" {}", to_hex(bytes))).collect();
     match call {
         1 => format!("1{inputs}"),
+        PRINTING => format!("print{inputs} {number}"),
         _ => format!("{call}{inputs} {number}"),
     }
 }
@@ -170,6 +175,44 @@ pub fn run_of_record(roll: &[u8], record: usize) -> &[u8] {
     let start = if ours.is_empty() { 0 } else { 4 * record };
     assert_eq!(ours.as_ptr(), roll[start..].as_ptr(), "{}", shown());
     ours
+}
+
+/// Printing. What is printed is read, by both programs, as the query's entries written out one by one, and so as the same path; or refused
+/// with 16, exactly if these are more than a table may have.
+pub fn print_query(query: &[u8], room: usize) -> Outcome {
+    let proved = |room: &mut [u8]| crate::print_query(query, room);
+    let second = |room: &mut [u8]| second::print_query(query, room);
+    let outcome = both(PRINTING, &[query], room, |bytes| bytes, proved, second);
+    if let (Reply::Count(_), text) = &outcome {
+        let entries = read_query(query, CURATORS_QUERY).expect("what is printed is in order");
+        let table = written_out(&entries);
+        let many = table.len() / ENTRY_BYTES;
+        let expected = match many {
+            ..=256 => (Reply::Count(many), table),
+            _ => (Reply::Refused { number: 16, place: 0 }, Vec::new()),
+        };
+        let shown = || line(PRINTING, &[query], room);
+        assert!(read_text(text, TEXT_ROOM) == expected, "what was printed is read otherwise: {}", shown());
+    }
+    outcome
+}
+
+/// The table of the last entry in which none is shared, as call 2 writes it: left operand, right operand, then the entry itself.
+fn written_out(entries: &[Entry]) -> Vec<u8> {
+    let mut table = Vec::new();
+    write_out(entries, entries.len() - 1, &mut table);
+    table
+}
+
+/// Writes an entry behind its operands, and says where it stands.
+fn write_out(entries: &[Entry], number: usize, table: &mut Vec<u8>) -> usize {
+    let mut record = entries[number].write();
+    for (field, operand) in record[2..].chunks_mut(2).zip(entries[number].operands()) {
+        let stands = write_out(entries, operand, table) as u16;
+        field.copy_from_slice(&stands.to_le_bytes());
+    }
+    table.extend(record);
+    table.len() / ENTRY_BYTES - 1
 }
 
 /// The nodes of what call 3 or 6 wrote.

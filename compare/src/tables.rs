@@ -29,6 +29,10 @@ pub struct Table {
 pub const PATHS: [u8; 9] = [1, 2, 3, 4, 5, 6, 7, 8, 9];
 pub const FILTERS: [u8; 7] = [16, 17, 18, 19, 20, 21, 22];
 
+/// In the runs that make a text longer: the bytes of an item with its joint, and those of a run with its own. Such a run is 29 high.
+const ITEM: usize = 11;
+const LONGEST_RUN: usize = 200;
+
 /// Labels in tables and rolls that belong together are 1, 2 and 3.
 pub const LABELS: usize = 3;
 
@@ -89,6 +93,20 @@ impl Table {
         self
     }
 
+    /// The same with so many entries more, all paths or all filters, each of two among the last three of its sort: what they unfold to soon
+    /// passes every bound.
+    pub fn doubled(mut self, chance: &mut Chance, storeys: usize) -> Table {
+        let (ground, kinds) = chance.pick(&[(2, [7, 8]), (16, [21, 22])]);
+        self.push(ground, u8::from(ground == 16), 0, 0);
+        for _ in 0..storeys {
+            let sort = if ground == 2 { &self.paths } else { &self.filters };
+            let last = &sort[sort.len().saturating_sub(3)..];
+            let (left, right) = (chance.pick(last), chance.pick(last));
+            self.push(chance.pick(&kinds), 0, left, right);
+        }
+        self
+    }
+
     /// The same with a path as its last entry; half of them start from every node.
     pub fn ended(mut self, chance: &mut Chance) -> Table {
         let mut last = self.len().wrapping_sub(1);
@@ -122,6 +140,29 @@ impl Table {
             self.push(7, 0, here, last);
         }
         self
+    }
+
+    /// The same with runs of steps joined to its last entry, a path, until its text, which has so many bytes, has as many as wanted.
+    pub fn lengthened(mut self, chance: &mut Chance, bytes: usize, wanted: usize) -> Table {
+        let (mut last, mut missing) = (self.len() - 1, wanted - bytes);
+        while missing > 0 {
+            let more = if missing > LONGEST_RUN { LONGEST_RUN - 1 - chance.below(50) } else { missing };
+            let run = self.run(chance, more - 1);
+            last = self.push(8, 0, last, run);
+            missing -= more;
+        }
+        self
+    }
+
+    /// A path whose text has so many bytes: items joined by `/`, each a step with stars. All items but the first have one byte fewer than
+    /// `ITEM`, so that each makes the text longer by `ITEM` with its joint.
+    fn run(&mut self, chance: &mut Chance, bytes: usize) -> usize {
+        let step = self.push(chance.pick(&[1, 2, 3, 4, 5]), 0, 0, 0);
+        for below in step..step + ITEM - 1 {
+            self.push(9, 0, below, 0);
+        }
+        let first = step + (bytes - 1) % ITEM;
+        (0..(bytes - 1) / ITEM).fold(first, |run, _| self.push(7, 0, run, step + ITEM - 2))
     }
 
     /// A query of a few entries.

@@ -7,6 +7,12 @@ pub const BYTES: &[u8] = b".v^><[]()|/*+&!tf#{}0123456789";
 
 const MOST_BYTES: usize = 1024;
 
+/// All byte strings of this length that consist of such bytes.
+pub fn all_of_length(length: u32) -> impl Iterator<Item = Vec<u8>> {
+    let text = move |number: usize| (0..length).map(|at| BYTES[number / BYTES.len().pow(at) % BYTES.len()]).collect();
+    (0..BYTES.len().pow(length)).map(text)
+}
+
 /// A text of any sort; two in three are spoilt.
 pub fn some_text(chance: &mut Chance) -> Vec<u8> {
     let mut text = match chance.below(16) {

@@ -2,6 +2,7 @@
 //! give is among them, of each input that it can speak of, at early places and at late ones.
 
 use compare::draws::{CALLS, INPUTS, LEAST};
+use compare::same::PRINTING;
 use compare::seen::Seen;
 
 const SEED: u64 = 1;
@@ -47,4 +48,9 @@ fn call_6() {
 #[test]
 fn call_7() {
     drawn(7);
+}
+
+#[test]
+fn printing() {
+    drawn(usize::from(PRINTING));
 }

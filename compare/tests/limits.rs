@@ -1,8 +1,8 @@
-//! The limits of document 01, one step within and one beyond, on every call that has them.
+//! The limits of documents 01 and 02, one step within and one beyond, on every call that has them.
 
 use compare::annotated::Annotated;
 use compare::records::{chain, entry, node, shaped, wide, MOST_NODES, NO_PARENT};
-use compare::same::{self, BITMAP_ROOM, REWRITE_ROOM, TEXT_ROOM};
+use compare::same::{self, BITMAP_ROOM, PRINT_ROOM, REWRITE_ROOM, TEXT_ROOM};
 use compare::tables::table_of;
 use second::Reply;
 
@@ -154,6 +154,14 @@ fn the_entries_and_height_of_a_curators_query() {
     assert_eq!(curators(&worked, &[]), [refused(12, 0); 2]);
 }
 
+#[test]
+fn the_entries_and_height_of_a_printed_query() {
+    let printed = |entries: usize, height: usize| same::print_query(&stars(entries, height), PRINT_ROOM).0;
+    assert_eq!([printed(32, 32), printed(256, 32)], [Reply::Count(32); 2]);
+    assert_eq!([printed(33, 33), printed(256, 33)], [refused(9, 32); 2]);
+    assert_eq!([printed(257, 32), printed(0, 1)], [refused(12, 0); 2]);
+}
+
 /// Calls 4, 5 and 6 on a chain of 4,096, with so many records of which each names a filter of this table.
 fn annotated(records: usize, filters: Vec<u8>) -> [Reply; 3] {
     let named = |at: usize| at % (filters.len() / 6).max(1);
@@ -208,6 +216,11 @@ fn rooms() {
         let rewritten = |query: &[u8]| same::rewrite(annotation, filters, query, room(REWRITE_ROOM)).0;
         assert_eq!(rewritten(&[]), reply.unwrap_or(refused(12, 0)));
         assert!(matches!((rewritten(&query), reply), (Reply::Count(_), None) | (_, Some(_))));
+        let printed = |query: &[u8]| same::print_query(query, room(PRINT_ROOM)).0;
+        assert_eq!(
+            [printed(&query), printed(&[])],
+            [reply.unwrap_or(Reply::Count(3)), reply.unwrap_or(refused(12, 0))]
+        );
         let asked = |input: &Annotated| same::curators_answer(input, &query, room(BITMAP_ROOM)).0;
         assert_eq!([asked(&input), asked(&empty)], [reply.unwrap_or(Reply::Count(3)), reply.unwrap_or(refused(2, 0))]);
     }

@@ -2,17 +2,14 @@
 
 use compare::records::{cases, from_hex, to_hex};
 use compare::same::{self, TEXT_ROOM};
-use compare::texts::BYTES;
+use compare::texts::all_of_length;
 
 #[test]
 fn every_text_of_up_to_four_bytes() {
     let mut texts = 0;
-    for length in 0..=4u32 {
-        for number in 0..BYTES.len().pow(length) {
-            let text: Vec<u8> = (0..length).map(|at| BYTES[number / BYTES.len().pow(at) % BYTES.len()]).collect();
-            same::read_text(&text, TEXT_ROOM);
-            texts += 1;
-        }
+    for text in (0..=4).flat_map(all_of_length) {
+        same::read_text(&text, TEXT_ROOM);
+        texts += 1;
     }
     assert_eq!(texts, 1 + 30 + 900 + 27_000 + 810_000);
 }

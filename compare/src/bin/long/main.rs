@@ -1,12 +1,13 @@
 //! The draws of the tests, from any seed and in any number: `long SEED COUNT [CALL ..]` draws so many inputs of each call, or of those
-//! named; for COUNT there may stand the numbers of the inputs, FIRST..END. It ends with an error at the first difference between the two
-//! programs, which it shows.
+//! named, among which 8 is printing; for COUNT there may stand the numbers of the inputs, FIRST..END. It ends with an error at the first
+//! difference between the two programs, which it shows.
 
 use std::ops::Range;
 use std::process::ExitCode;
 use std::time::Instant;
 
 use compare::draws::{Call, CALLS, INPUTS, LEAST};
+use compare::same::PRINTING;
 use compare::seen::Seen;
 
 /// Inputs between two lines of progress.
@@ -42,14 +43,14 @@ fn numbers(word: &str) -> Option<Range<u64>> {
 fn asked(words: &[String]) -> Option<(u64, Range<u64>, Vec<u8>)> {
     let [seed, inputs, calls @ ..] = words else { return None };
     let calls: Option<Vec<u8>> = calls.iter().map(|word| word.parse().ok()).collect();
-    let calls = calls.filter(|calls| calls.iter().all(|number| (1..=7).contains(number)))?;
+    let calls = calls.filter(|calls| calls.iter().all(|number| CALLS.iter().any(|call| call.number == *number)))?;
     Some((seed.parse().ok()?, numbers(inputs)?, calls))
 }
 
 fn main() -> ExitCode {
     let words: Vec<String> = std::env::args().skip(1).collect();
     let Some((seed, inputs, named)) = asked(&words) else {
-        eprintln!("usage: long SEED COUNT|FIRST..END [CALL ..]");
+        eprintln!("usage: long SEED COUNT|FIRST..END [CALL ..]\ncalls are 1 to 7, and {PRINTING} for printing");
         return ExitCode::from(2);
     };
     let wanted = |call: &&Call| named.is_empty() || named.contains(&call.number);
