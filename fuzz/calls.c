@@ -1,5 +1,5 @@
-/* The seven calls under libFuzzer: each input is split (input.h), put to one call, and the reply and the lent bytes are held to what
- * docs/MANUAL.md promises, as far as that is cheap to say. A promise that does not hold ends the run. */
+/* The seven calls and printing under libFuzzer: each input is split (input.h), put to one of them, and the reply and the lent bytes are
+ * held to what docs/MANUAL.md promises, as far as that is cheap to say. A promise that does not hold ends the run. */
 #include <stdio.h>
 #include <stdlib.h>
 #include <string.h>
@@ -56,6 +56,7 @@ static struct reply put(unsigned call, const struct part *parts, struct part roo
             reply.refusal = kepolas_rewrite(annotation.bytes, annotation.length, filters.bytes, filters.length, query.bytes, query.length,
                                             room.bytes, room.length, told);
             break;
+        case PRINTING: reply.refusal = kepolas_print_query(query.bytes, query.length, room.bytes, room.length, told); break;
         default:
             reply.refusal = kepolas_curators_answer(roll.bytes, roll.length, annotation.bytes, annotation.length, filters.bytes,
                                                     filters.length, query.bytes, query.length, room.bytes, room.length, told);
@@ -68,7 +69,7 @@ static struct reply put(unsigned call, const struct part *parts, struct part roo
 static int same(struct reply one, struct reply other) { return one.refusal == other.refusal && one.told == other.told; }
 
 /* The refusals that the list has for a call: bit n stands for number n. */
-static const uint32_t REFUSALS[7] = {0, 0x3c, 0x1e002, 0x133e, 0xffe, 0x1fc2, 0x1ffe};
+static const uint32_t REFUSALS[PRINTING + 1] = {0, 0x3c, 0x1e002, 0x133e, 0xffe, 0x1fc2, 0x1ffe, 0, 0x41302};
 
 static int place_fits(uint64_t refusal, size_t place, const struct part *parts) {
     size_t records = parts[ANNOTATION].length / KEPOLAS_ANNOTATION_BYTES, entries = parts[QUERY].length / KEPOLAS_ENTRY_BYTES;
@@ -86,7 +87,7 @@ static int place_fits(uint64_t refusal, size_t place, const struct part *parts) 
 }
 
 static void hold_refusal(unsigned call, struct reply reply, const struct part *parts, struct part room) {
-    hold(reply.refusal < 17 && (REFUSALS[call] >> reply.refusal & 1), "a call refuses by the numbers that the list has for it");
+    hold(reply.refusal < 19 && (REFUSALS[call] >> reply.refusal & 1), "a call refuses by the numbers that the list has for it");
     hold(place_fits(reply.refusal, reply.told, parts), "the place of a refusal lies in what is refused");
     hold(untouched_from(room, 0), "a refused call changes no byte of the room");
 }
@@ -190,15 +191,73 @@ static void hold_as_curator(struct reply reply, const struct part *parts) {
     free(asked[ROLL].bytes);
 }
 
-/* A text is too short or too long exactly by its length; one that is read gives a table that a curator may ask. */
+/* A query as call 5 takes or refuses it where there is no annotation. */
+static struct reply rewritten_alone(struct part query) {
+    struct part none = {query.bytes, 0}, asked[PARTS] = {none, none, none, query}, table = marked_room(KEPOLAS_REWRITTEN_ROOM);
+    struct reply reply = put(5, asked, table);
+    free(table.bytes);
+    return reply;
+}
+
+static struct reply put_query(unsigned call, struct part query, struct part room) {
+    return put(call, (struct part[PARTS]){{0}, {0}, {0}, query}, room);
+}
+
+/* A table that call 2 wrote for a text of this length, printed and read. */
+static void hold_printed_back(struct part table, size_t length) {
+    struct part text = marked_room(KEPOLAS_TEXT_ROOM), again = marked_room(KEPOLAS_TABLE_ROOM);
+    struct reply printed = put_query(PRINTING, table, text);
+    hold(printed.refusal == 0, "what call 2 writes is printed");
+    hold(printed.told <= length, "what call 2 writes is printed with no more bytes than were read");
+    struct reply read = put_query(2, (struct part){text.bytes, printed.told}, again);
+    hold(same(read, (struct reply){0, table.length / KEPOLAS_ENTRY_BYTES}) && memcmp(again.bytes, table.bytes, table.length) == 0,
+         "what call 2 writes is printed and read as the same bytes");
+    free(again.bytes);
+    free(text.bytes);
+}
+
+/* A text is too short or too long exactly by its length; one that is read gives a table that a curator may ask, and that is printed. */
 static void hold_text(struct reply reply, const struct part *parts, struct part room) {
     size_t length = parts[QUERY].length;
     hold((reply.refusal == KEPOLAS_TEXT_LENGTH) == (length == 0 || length > KEPOLAS_TEXT_LIMIT), "13 is given exactly by the length");
     if (reply.refusal != 0) return;
-    struct part asked[PARTS] = {{0}, {0}, {0}, {room.bytes, KEPOLAS_ENTRY_BYTES * reply.told}};
-    struct part table = marked_room(KEPOLAS_REWRITTEN_ROOM);
-    hold(put(5, asked, table).refusal == 0, "what call 2 writes is a table for a curator");
+    struct part table = {room.bytes, KEPOLAS_ENTRY_BYTES * reply.told};
+    hold(rewritten_alone(table).refusal == 0, "what call 2 writes is a table for a curator");
+    hold_printed_back(table, length);
+}
+
+/* An entry takes three bytes at most, brackets with it, and one at least, but for one that asks where a path leads and takes none. */
+static void hold_too_long(int too_long, double entries) {
+    if (3 * entries <= KEPOLAS_TEXT_LIMIT) hold(!too_long, "18 is not given where a text cannot be too long");
+    if (entries > 2 * KEPOLAS_TEXT_LIMIT) hold(too_long, "18 is given where a text must be too long");
+}
+
+/* Printing refuses a query as call 5 does; of what call 5 takes it refuses texts that are too long. */
+static void hold_query(struct reply reply, struct part query) {
+    struct reply rewritten = rewritten_alone(query);
+    int too_long = reply.refusal == KEPOLAS_TEXT_TOO_LONG;
+    hold(reply.refusal == 0 || too_long ? rewritten.refusal == 0 : same(rewritten, reply), "printing refuses a query as call 5 does");
+    if (rewritten.refusal == 0) hold_too_long(too_long, written_out(query));
+}
+
+/* What is printed is read as the query's entries, written out one by one, and these are printed alike; or they are too many. */
+static void hold_printed(struct part room, size_t bytes, struct part query) {
+    hold(bytes >= 1 && bytes <= KEPOLAS_TEXT_LIMIT, "a printed text has at least one byte and no more than its limit");
+    hold(untouched_from(room, bytes), "bytes behind the text stay as they were");
+    struct part text = block_of(room.bytes, bytes), table = marked_room(KEPOLAS_TABLE_ROOM), again = marked_room(KEPOLAS_TEXT_ROOM);
+    struct reply read = put_query(2, text, table);
+    double entries = written_out(query);
+    if (entries > KEPOLAS_QUERY_LIMIT / KEPOLAS_ENTRY_BYTES) {
+        hold(same(read, (struct reply){KEPOLAS_TABLE_TOO_LARGE, 0}), "what is printed of too many entries is refused with 16");
+    } else {
+        hold(same(read, (struct reply){0, (size_t)entries}), "what is printed is read as the entries written out");
+        struct reply printed = put_query(PRINTING, (struct part){table.bytes, KEPOLAS_ENTRY_BYTES * read.told}, again);
+        hold(same(printed, (struct reply){0, bytes}) && memcmp(again.bytes, text.bytes, bytes) == 0,
+             "what is printed, read and printed is the same text");
+    }
+    free(again.bytes);
     free(table.bytes);
+    free(text.bytes);
 }
 
 /* What two calls have in common. */
@@ -211,6 +270,7 @@ static void hold_alike(unsigned call, struct reply reply, const struct part *par
             hold_roll_first(reply, parts);
             hold_curators(reply, room, parts);
             break;
+        case PRINTING: hold_query(reply, parts[QUERY]); break;
         default: break;
     }
 }
@@ -222,6 +282,7 @@ static void hold_accepted(unsigned call, struct reply reply, const struct part *
         case 2: hold_table(room, reply.told, KEPOLAS_TABLE_ROOM / KEPOLAS_ENTRY_BYTES); break;
         case 4: hold_view(room, reply.told, parts); break;
         case 5: hold_rewritten(room, reply.told, parts[FILTERS]); break;
+        case PRINTING: hold_printed(room, reply.told, parts[QUERY]); break;
         default: hold_bitmap(room, reply.told, nodes);
     }
 }
@@ -253,8 +314,8 @@ static void ask_for_run(const struct input *input) {
 }
 
 static size_t room_of(const struct input *input) {
-    const size_t asked[7] = {0, 0, KEPOLAS_TABLE_ROOM, KEPOLAS_BITMAP_ROOM, input->parts[ROLL].length, KEPOLAS_REWRITTEN_ROOM,
-                             KEPOLAS_BITMAP_ROOM};
+    const size_t asked[PRINTING + 1] = {0, 0, KEPOLAS_TABLE_ROOM, KEPOLAS_BITMAP_ROOM, input->parts[ROLL].length, KEPOLAS_REWRITTEN_ROOM,
+                                        KEPOLAS_BITMAP_ROOM, 0, KEPOLAS_TEXT_ROOM};
     return asked[input->call];
 }
 

@@ -9,10 +9,14 @@ static double cost_of_operand(const double *costs, size_t entry, const uint8_t *
     return operand < entry ? costs[operand] : 0;
 }
 
-/* What a step costs up or down and sideways, and how many rounds a star takes at most. */
+/* What a step costs up or down and sideways, how many rounds a star takes at most, and how often a path is gone along that is asked where
+ * it leads. */
 struct prices {
-    double upright, sideways, rounds;
+    double upright, sideways, rounds, ways;
 };
+
+/* There and back. */
+#define BOTH_WAYS 2
 
 /* An entry is gone through once for each use, a star's once for each round. */
 static double cost_of_entry(const double *costs, size_t entry, const uint8_t *bytes, struct prices prices) {
@@ -21,22 +25,32 @@ static double cost_of_entry(const double *costs, size_t entry, const uint8_t *by
         case 2: case 3: return prices.upright;
         case 4: case 5: return prices.sideways;
         case 9: return 1 + prices.rounds * left;
-        /* Where a path leads is asked there and back. */
-        case 17: return 1 + 2 * left;
+        case 17: return 1 + prices.ways * left;
         case 7: case 8: case 21: case 22: return 1 + left + right;
         case 6: case 20: return 1 + left;
         default: return 1;
     }
 }
 
+/* The cost of each entry of a table, of which there are so many. */
+static size_t cost_entries(double costs[MOST_ENTRIES], struct part table, struct prices prices) {
+    size_t entry = 0;
+    for (; entry < MOST_ENTRIES && (entry + 1) * KEPOLAS_ENTRY_BYTES <= table.length; entry++)
+        costs[entry] = cost_of_entry(costs, entry, table.bytes + entry * KEPOLAS_ENTRY_BYTES, prices);
+    return entry;
+}
+
 /* The cost of the dearest entry of a table. */
 static double cost_of_table(struct part table, struct prices prices) {
     double greatest = 0, costs[MOST_ENTRIES];
-    for (size_t entry = 0; entry < MOST_ENTRIES && (entry + 1) * KEPOLAS_ENTRY_BYTES <= table.length; entry++) {
-        costs[entry] = cost_of_entry(costs, entry, table.bytes + entry * KEPOLAS_ENTRY_BYTES, prices);
-        if (costs[entry] > greatest) greatest = costs[entry];
-    }
+    for (size_t entries = cost_entries(costs, table, prices); entries > 0; entries--)
+        if (costs[entries - 1] > greatest) greatest = costs[entries - 1];
     return greatest;
+}
+
+double written_out(struct part query) {
+    double costs[MOST_ENTRIES];
+    return costs[cost_entries(costs, query, (struct prices){1, 1, 1, 1}) - 1];
 }
 
 static double nodes_of(struct part roll) { return (double)(roll.length / KEPOLAS_NODE_BYTES); }
@@ -46,13 +60,13 @@ static double weight_of(double nodes) { return 1 + nodes / 16; }
 
 double cost_on_roll(struct part roll, struct part query) {
     double nodes = nodes_of(roll);
-    return weight_of(nodes) * cost_of_table(query, (struct prices){1, 1, nodes});
+    return weight_of(nodes) * cost_of_table(query, (struct prices){1, 1, nodes, BOTH_WAYS});
 }
 
 /* In a rewritten query a step goes over hidden nodes, sideways up and down again, and asks at each for the filters of all records. */
 double cost_of_view(const struct part parts[PARTS]) {
     double nodes = nodes_of(parts[ROLL]), records = (double)(parts[ANNOTATION].length / KEPOLAS_ANNOTATION_BYTES);
-    double visible = 1 + records * (1 + cost_of_table(parts[FILTERS], (struct prices){1, 1, nodes}));
+    double visible = 1 + records * (1 + cost_of_table(parts[FILTERS], (struct prices){1, 1, nodes, BOTH_WAYS}));
     double over = 4 * nodes * visible;
-    return weight_of(nodes) * (visible + cost_of_table(parts[QUERY], (struct prices){1 + over, 1 + nodes * over, nodes}));
+    return weight_of(nodes) * (visible + cost_of_table(parts[QUERY], (struct prices){1 + over, 1 + nodes * over, nodes, BOTH_WAYS}));
 }

@@ -70,7 +70,7 @@ static void read_as_text(struct part *part) {
 void split_input(const uint8_t *data, size_t size, struct input *input) {
     struct part located[PARTS];
     locate_parts(data, size, located);
-    input->call = 1 + data[0] % 7;
+    input->call = 1 + data[0] % PRINTING;
     input->room_more = (int8_t)data[1];
     input->record = data[4] + 256u * data[5];
     for (unsigned name = 0; name < PARTS; name++) {

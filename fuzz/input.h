@@ -2,7 +2,7 @@
  *
  * A head of 11 bytes, and behind it the parts, one behind the other:
  *
- *     0      which call: 1 and the remainder by 7
+ *     0      which call: 1 and the remainder by 8; printing is 8
  *     1      room: so many bytes more than the call asks for, read as a signed number
  *     2      weight 1: the query part is a text, which call 2 reads first; weight 2: so is the filter part
  *     3      the remainder by 4 says which part is made longer, the quotient q by how much, for tables at their limits from short inputs:
@@ -17,6 +17,7 @@
 #include <stddef.h>
 #include <stdint.h>
 
+#define PRINTING 8
 #define HEAD_BYTES 11
 #define PARTS 4
 enum part_name { ROLL, ANNOTATION, FILTERS, QUERY };

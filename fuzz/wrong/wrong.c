@@ -3,6 +3,7 @@
  * of the mistake. */
 #include <stdint.h>
 #include <stdlib.h>
+#include <string.h>
 
 #include "kepolas.h"
 
@@ -19,6 +20,7 @@ uint64_t __real_kepolas_rewrite(const uint8_t *, size_t, const uint8_t *, size_t
 uint64_t __real_kepolas_curators_answer(const uint8_t *, size_t, const uint8_t *, size_t, const uint8_t *, size_t, const uint8_t *, size_t,
                                         uint8_t *, size_t, size_t *);
 void __real_kepolas_run_of(const uint8_t *, size_t, size_t, size_t *, size_t *);
+uint64_t __real_kepolas_print_query(const uint8_t *, size_t, uint8_t *, size_t, size_t *);
 
 /* 1: the library is told of a record behind the roll, and reads it. 2: one node too many is counted. */
 uint64_t __wrap_kepolas_check_roll(const uint8_t *roll, size_t roll_len, size_t *told) {
@@ -101,4 +103,55 @@ uint64_t __wrap_kepolas_curators_answer(const uint8_t *roll, size_t roll_len, co
 void __wrap_kepolas_run_of(const uint8_t *roll, size_t roll_len, size_t k, size_t *start, size_t *end) {
     __real_kepolas_run_of(roll, roll_len, k, start, end);
     if (mistake(15) && *end > 0) *end -= KEPOLAS_NODE_BYTES;
+}
+
+/* How many bytes the table has that call 2 reads a text as; none if it refuses the text. */
+static size_t bytes_read_as(const uint8_t *text, size_t text_len) {
+    uint8_t table[KEPOLAS_TABLE_ROOM];
+    size_t entries;
+    uint64_t refusal = __real_kepolas_read_text(text, text_len, table, sizeof table, &entries);
+    return refusal == 0 ? KEPOLAS_ENTRY_BYTES * entries : 0;
+}
+
+static void swap(uint8_t *text, size_t text_len, uint8_t one, uint8_t other) {
+    for (size_t at = 0; at < text_len; at++) text[at] = text[at] == one ? other : text[at] == other ? one : text[at];
+}
+
+/* 24: the last byte is not counted. 26: `v` is printed for every table that call 2 did not write, 35: for every one that it would refuse.
+ * 27: `|` and `/` are printed for one another, for tables that it did not write. 28: `<` and `>` are, for all. 29: brackets stand around
+ * the text. */
+static void spoil_text(uint8_t *text, size_t *told, size_t query_len) {
+    size_t read_as = bytes_read_as(text, *told);
+    if (mistake(24)) --*told;
+    if (mistake(read_as == 0 ? 35 : 26) && read_as != query_len) text[0] = 'v', *told = 1;
+    if (mistake(27) && read_as != query_len) swap(text, *told, '/', '|');
+    if (mistake(28)) swap(text, *told, '<', '>');
+    if (mistake(29) && *told + 2 <= KEPOLAS_TEXT_LIMIT) {
+        memmove(text + 1, text, *told);
+        text[0] = '(', text[*told + 1] = ')', *told += 2;
+    }
+}
+
+/* 34: a text that call 2 refuses with 16 is printed for one that is too long. */
+static uint64_t print_steps(uint8_t *text, size_t *told) {
+    *told = KEPOLAS_TEXT_LIMIT - 1;
+    for (size_t at = 0; at < *told; at++) text[at] = at % 2 == 0 ? 'v' : '/';
+    return 0;
+}
+
+/* 25: a byte behind the text is written. 30: a room is written where the query is refused. 31: an entry that is too high is refused in the
+ * place of the one before it. 32: more than 20 bytes are too many for a table that call 2 did not write, 33: for one that it wrote. */
+uint64_t __wrap_kepolas_print_query(const uint8_t *query, size_t query_len, uint8_t *room, size_t room_len, size_t *told) {
+    uint8_t text[KEPOLAS_TEXT_ROOM];
+    uint64_t refusal = __real_kepolas_print_query(query, query_len, text, room_len < sizeof text ? room_len : sizeof text, told);
+    if (mistake(34) && refusal == KEPOLAS_TEXT_TOO_LONG) refusal = print_steps(text, told);
+    if (mistake(30) && refusal != 0 && room_len > 0) room[0] ^= 1;
+    if (mistake(31) && refusal == KEPOLAS_ENTRY_HEIGHT) --*told;
+    if (refusal != 0) return refusal;
+    int by_reader = bytes_read_as(text, *told) == query_len;
+    if (mistake(by_reader ? 33 : 32) && *told > 20) return *told = 0, KEPOLAS_TEXT_TOO_LONG;
+    spoil_text(text, told, query_len);
+    memcpy(room, text, *told);
+    if (mistake(25) && *told < room_len) room[*told] ^= 1;
+    return 0;
 }
