@@ -89,8 +89,8 @@ pub const OF_PRINTED: &[Kind] = &[
     (0, "a label of two digits"),
     (0, "read as the same bytes"),
     (0, "read as other bytes"),
-    (0, "too many entries to be read"),
-    (0, "a short text of too many entries"),
+    (0, "too many entries in a text"),
+    (0, "too many entries in a long text"),
 ];
 
 /// The room of a call that has one: too short, as long as is named for it, or longer. Other refusals say nothing of it.
@@ -208,15 +208,14 @@ pub fn note_printed(seen: &mut Seen, query: &[u8], text: &[u8]) {
     if text.len() == PRINT_ROOM {
         seen.note(0, "a text of 1,024 bytes");
     }
-    let mut room = [0; TEXT_ROOM];
-    let read = crate::read_text(text, &mut room);
-    seen.note(
-        0,
-        match outcome(read) {
-            Err(_) if text.len() > 800 => "too many entries to be read",
-            Err(_) => "a short text of too many entries",
-            Ok(entries) if room[..entries * ENTRY_BYTES] == *query => "read as the same bytes",
-            Ok(_) => "read as other bytes",
-        },
-    );
+    // Those that were made for their length all have too many entries; shorter ones must come too.
+    let (mut room, made_for_its_length) = ([0; TEXT_ROOM], PRINT_ROOM - 1);
+    match outcome(crate::read_text(text, &mut room)) {
+        Err(_) => {
+            let kinds = ["too many entries in a text", "too many entries in a long text"];
+            seen.note_place(0, text.len(), made_for_its_length, kinds);
+        }
+        Ok(entries) if room[..entries * ENTRY_BYTES] == *query => seen.note(0, "read as the same bytes"),
+        Ok(_) => seen.note(0, "read as other bytes"),
+    }
 }

@@ -78,6 +78,7 @@ fn hold_fewest(by_table: HashMap<Vec<u8>, Vec<Vec<u8>>>) -> (usize, usize) {
     (by_table.len(), by_table.values().map(Vec::len).sum())
 }
 
+/// There are as many texts as the lines of the grammar give, counted by length.
 #[test]
 fn no_text_of_up_to_seven_bytes_has_as_few_brackets() {
     assert_eq!(hold_fewest(texts_by_table(BYTES, 4)), (205, 220));
