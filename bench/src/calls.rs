@@ -1,4 +1,4 @@
-//! Each of the seven calls beside the second program, on the court roll of the examples with its annotation and queries.
+//! Each of the seven calls, and printing, beside the second program, on the court roll of the examples with its annotation and queries.
 
 use std::hint::black_box;
 
@@ -10,7 +10,7 @@ use crate::tools::{in_turn, table_of};
 
 /// One call: what is timed, and how many microseconds each program takes for it.
 pub struct Call {
-    pub number: u8,
+    pub name: &'static str,
     pub work: String,
     pub proved: f64,
     pub second: f64,
@@ -18,7 +18,9 @@ pub struct Call {
 
 /// What a program gives for the whole work of one call: the replies, and the bytes that were written.
 type Given = (Vec<Reply>, Vec<u8>);
-type Calls = [fn(&Court, &mut [u8]) -> Vec<Reply>; 7];
+type Calls = [fn(&Court, &mut [u8]) -> Vec<Reply>; 8];
+
+const NAMES: [&str; 8] = ["1", "2", "3", "4", "5", "6", "7", "printing"];
 
 struct Court {
     input: Annotated,
@@ -48,6 +50,7 @@ macro_rules! works {
                 let run = |record| Reply::Count($program::run_of_record(&court.input.roll, record).len());
                 (0..court.nodes()).map(run).collect()
             },
+            |court, room| court.each(|query| $program::print_query(query, room)),
         ]
     };
 }
@@ -74,7 +77,7 @@ impl Court {
         self.queries.iter().map(|query| work(black_box(query))).collect()
     }
 
-    fn works(&self) -> [String; 7] {
+    fn works(&self) -> [String; 8] {
         let (nodes, queries) = (self.nodes(), self.queries.len());
         [
             format!("check a roll of {nodes} nodes"),
@@ -84,13 +87,14 @@ impl Court {
             format!("rewrite {queries} queries"),
             format!("answer {queries} queries to the curator"),
             format!("the runs of all {nodes} records"),
+            format!("print {queries} tables"),
         ]
     }
 }
 
 /// What is given for each text and query by itself, in a room of its own; calls 1, 4 and 7 take neither.
-fn given(court: &Court, number: u8, work: fn(&Court, &mut [u8]) -> Vec<Reply>) -> Vec<Given> {
-    let asked = if [1, 4, 7].contains(&number) { 1 } else { court.queries.len() };
+fn given(court: &Court, name: &str, work: fn(&Court, &mut [u8]) -> Vec<Reply>) -> Vec<Given> {
+    let asked = if ["1", "4", "7"].contains(&name) { 1 } else { court.queries.len() };
     let alone = |at: usize| {
         let mut room = vec![0; court.input.roll.len()];
         (work(&court.alone(at), &mut room), room)
@@ -99,18 +103,18 @@ fn given(court: &Court, number: u8, work: fn(&Court, &mut [u8]) -> Vec<Reply>) -
 }
 
 /// Both programs give the same; call 5 is free in its count and its bytes, and refuses nothing here.
-fn agree(number: u8, ours: &[Given], theirs: &[Given]) -> bool {
+fn agree(name: &str, ours: &[Given], theirs: &[Given]) -> bool {
     let counted = |given: &Given| given.0.iter().all(|reply| matches!(reply, Reply::Count(_)));
-    ours.iter().all(counted) && theirs.iter().all(counted) && (number == 5 || ours == theirs)
+    ours.iter().all(counted) && theirs.iter().all(counted) && (name == "5" || ours == theirs)
 }
 
 pub fn calls() -> Vec<Call> {
     let court = Court::new();
     let works = court.works().into_iter().zip(PROVED).zip(SECOND);
-    let timed = |(number, ((work, proved), second)): (u8, ((String, _), _))| {
+    let timed = |(name, ((work, proved), second)): (&'static str, ((String, _), _))| {
         assert!(
-            agree(number, &given(&court, number, proved), &given(&court, number, second)),
-            "call {number}: the two programs differ"
+            agree(name, &given(&court, name, proved), &given(&court, name, second)),
+            "call {name}: the two programs differ"
         );
         let (mut ours, mut theirs) = (vec![0; court.input.roll.len()], vec![0; court.input.roll.len()]);
         let times = in_turn([
@@ -121,7 +125,7 @@ pub fn calls() -> Vec<Call> {
                 black_box(second(black_box(&court), &mut theirs));
             },
         ]);
-        Call { number, work, proved: times[0], second: times[1] }
+        Call { name, work, proved: times[0], second: times[1] }
     };
-    (1..).zip(works).map(timed).collect()
+    NAMES.into_iter().zip(works).map(timed).collect()
 }

@@ -12,6 +12,8 @@ mod document;
 mod hidden;
 mod inputs;
 mod plot;
+mod printing;
+mod queries;
 mod report;
 mod rolls;
 mod stack;
@@ -19,10 +21,11 @@ mod tools;
 mod views;
 mod xpath;
 
-const PARTS: [(&str, fn()); 12] = [
+const PARTS: [(&str, fn()); 14] = [
     ("rolls", inputs::checking_rolls),
     ("texts", inputs::reading_texts),
     ("tables", inputs::checking_tables),
+    ("printing", || print!("{}", report::printing_table(&printing::prints()))),
     ("answers", answers::answering),
     ("shared", answers::shared),
     ("views", views::cutting),
@@ -32,11 +35,12 @@ const PARTS: [(&str, fn()); 12] = [
     ("runs", curators::over_hidden_runs),
     ("stack", stack::stack),
     ("curators-stack", stack::curators_stack),
+    ("printing-stack", stack::printing_stack),
 ];
 
 fn figures(into_document: bool) {
-    let (calls, shares) = (calls::calls(), xpath::answers());
-    let (tables, picture) = (report::tables(&calls, &shares), plot::svg(&shares));
+    let (calls, prints, shares) = (calls::calls(), printing::prints(), xpath::answers());
+    let (tables, picture) = (report::tables(&calls, &prints, &shares), plot::svg(&shares));
     print!("{tables}");
     document::leave(&tables, &picture);
     if into_document {
@@ -52,7 +56,10 @@ fn main() {
     }
     let part_of = |name: &&str| PARTS.iter().find(|(part, _)| part == name);
     if let Some(unknown) = named.iter().find(|name| part_of(name).is_none()) {
-        eprintln!("bench: there is no part {unknown}. The parts: {}; or --document alone", PARTS.map(|(name, _)| name).join(" "));
+        eprintln!(
+            "bench: there is no part {unknown}. The parts: {}; or --document alone",
+            PARTS.map(|(name, _)| name).join(" ")
+        );
         std::process::exit(2);
     }
     named.iter().filter_map(part_of).for_each(|(_, part)| part());

@@ -3,6 +3,7 @@
 use std::process::Command;
 
 use crate::calls::Call;
+use crate::printing::Print;
 use crate::xpath::{Answer, Share};
 
 /// A number with three figures or more.
@@ -46,7 +47,20 @@ fn calls_table(calls: &[Call]) -> String {
     let mut table = "| call | what | proved, µs | second, µs | second / proved |\n|---|---|---|---|---|\n".to_string();
     for call in calls {
         let [proved, second, ratio] = [call.proved, call.second, call.second / call.proved].map(number);
-        table += &format!("| {} | {} | {proved} | {second} | {ratio} |\n", call.number, call.work);
+        table += &format!("| {} | {} | {proved} | {second} | {ratio} |\n", call.name, call.work);
+    }
+    table
+}
+
+pub fn printing_table(prints: &[Print]) -> String {
+    let mut table = "| table | entries | height | reply | proved, µs | ns a byte | second, µs | second / proved |\n\
+                     |---|---|---|---|---|---|---|---|\n"
+        .to_string();
+    for print in prints {
+        let Print { name, entries, height, reply, proved, second } = print;
+        let for_byte = 1000.0 * proved / print.bytes() as f64;
+        let numbers = [*proved, for_byte, *second, second / proved].map(number).join(" | ");
+        table += &format!("| {name} | {entries} | {height} | {reply} | {numbers} |\n");
     }
     table
 }
@@ -95,10 +109,12 @@ fn summary(shares: &[Share]) -> String {
     )
 }
 
-pub fn tables(calls: &[Call], shares: &[Share]) -> String {
+pub fn tables(calls: &[Call], prints: &[Print], shares: &[Share]) -> String {
     let parts: Vec<String> = shares.iter().map(share_table).collect();
-    let (head, calls, answers, summary) = (head(), calls_table(calls), parts.join("\n"), summary(shares));
+    let (head, calls, printing) = (head(), calls_table(calls), printing_table(prints));
+    let (answers, summary) = (parts.join("\n"), summary(shares));
     format!(
-        "{head}\n### The calls beside the second program\n\n{calls}\n### Answers beside libxml2\n\n{answers}\n{summary}"
+        "{head}\n### The calls beside the second program\n\n{calls}\n### Printing beside the second program\n\n{printing}\n\
+         ### Answers beside libxml2\n\n{answers}\n{summary}"
     )
 }

@@ -1,4 +1,4 @@
-//! How much stack calls 3 and 6 take on the highest tables that are accepted.
+//! How much stack calls 3, 4 and 6 and printing take on the highest tables that are accepted.
 
 use std::hint::black_box;
 
@@ -81,22 +81,34 @@ fn filtered_stars(many: usize, axis: u8, filter_first: bool) -> Vec<u8> {
     table.concat()
 }
 
-fn stack_line(name: &str, roll: &[u8], table: &[u8]) {
+fn stack_line(name: &str, work: impl FnOnce() -> Reply + Send) {
     let mut reply = Reply::Count(0);
-    let bytes = taken(|| reply = compare::answer_on_roll(roll, table, &mut [0; 512]));
+    let bytes = taken(|| reply = work());
     println!("{name:<38}{bytes:>12}{:>8}", reply.to_string());
+}
+
+fn answer_line(name: &str, roll: &[u8], table: &[u8]) {
+    stack_line(name, || compare::answer_on_roll(roll, table, &mut [0; 512]));
 }
 
 pub fn stack() {
     println!("{:<38}{:>12}{:>8}", "stack, on tables 128 high", "bytes", "reply");
     let alone = ("one entry alone", vec![1, 0, 0, 0, 0, 0]);
     for (name, table) in [alone].into_iter().chain(towers(entry(1, 0, 0), entry(18, 0, 0), 128)) {
-        stack_line(name, &[1, 0, 255, 255], &table);
+        answer_line(name, &[1, 0, 255, 255], &table);
     }
     let two = [1, 0, 255, 255, 1, 0, 0, 0];
     for (name, filter_first) in [("stars of a step and a filter", false), ("stars of a filter and a step", true)] {
         let table = filtered_stars(31, 3, filter_first);
-        stack_line(name, &two, &table[..table.len() - 6]);
+        answer_line(name, &two, &table[..table.len() - 6]);
+    }
+}
+
+pub fn printing_stack() {
+    println!("{:<38}{:>12}{:>8}", "stack of printing, on tables 32 high", "bytes", "reply");
+    let mut room = [0; 1024];
+    for (name, table) in towers(entry(1, 0, 0), entry(18, 0, 0), 32) {
+        stack_line(name, || compare::print_query(&table, &mut room));
     }
 }
 
