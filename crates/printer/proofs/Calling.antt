@@ -20,13 +20,11 @@ use Rattle.query.specs.Fault.{curators, last, Query}
 use Rattle.query.proofs.Tables.{entries-length}
 use Rattle.tables.specs.Promise.{QueryChecked}
 use Rattle.text.specs.Print.{Fewest, too-long, PrintFault, TablePrinted}
-use Rattle.shortest.proofs.Shown.{pathShown}
+use Rattle.shortest.proofs.Shown.{pathHeld, pathShown}
 use Rattle.shortest.proofs.Texts.{shown-fewest}
 use Rattle.shortest.proofs.Queries.{query-limited}
-use Rattle.printer.specs.declared.spot.Spot.{Spot}
-use Rattle.printer.specs.declared.spot.Spot.the-variants.{At, Full}
-use Rattle.printer.specs.Printing.{Holds, up-to, no-room, Goes, entryShown}
-use Rattle.printer.proofs.Made.{shown-as}
+use Rattle.printer.specs.Printing.{Holds, up-to, no-room, Goes, entryHeld}
+use Rattle.printer.proofs.Made.{bare, held-as}
 
 module _ (table before : Bytes) where
   -- the room is too short
@@ -53,58 +51,58 @@ module _ {table : Bytes} (query : Query curators table) where
       let whole = query .size .size .multiple in
       omega (arith, entries-length table)
 
-  -- whose text is what is shown for its path,
-  shown-path : entryShown es (length es - 1) ≡ pathShown (queryOf es)
-  unfolding last queryOf
-  shown-path = shown-as es (length es - 1) last-within path (query .path)
+  -- whose text, where nothing is asked for, is what is shown for its path,
+  held-path : entryHeld 0 es (length es - 1) ≡ pathShown (queryOf es)
+  unfolding last queryOf pathHeld
+  held-path = held-as es (length es - 1) last-within path (query .path) 0 ∙ bare _ _ _ _
 
   -- the one with the fewest brackets
-  fewest : Fewest (queryOf es) (entryShown es (length es - 1))
-  fewest = rw shown-path (shown-fewest (queryOf es) (query-limited query .labels))
+  fewest : Fewest (queryOf es) (pathShown (queryOf es))
+  fewest = shown-fewest (queryOf es) (query-limited query .labels)
 
   -- It is written from the front of a buffer on.
-  module _ {out after : Bytes} {end : Spot} (goes : Goes (entryShown es (length es - 1)) out (At 0) end after) where
-    held : Holds (entryShown es (length es - 1)) end after
-    held = goes .on [] (up-to refl (omega arith) refl)
+  module _ {out after : Bytes} {n : ℕ} (goes : Goes (entryHeld 0 es (length es - 1)) out 0 n after) where
+    wrote : Holds (pathShown (queryOf es)) n after
+    wrote = rw held-path at (goes .on [] (up-to refl (omega arith) refl))
 
     -- it fits: so many bytes at the front
-    pub record Fits (n : ℕ) : Type 0 where
-      pub size : n ≡ length (entryShown es (length es - 1))
-      pub most : n ≤ 1024
-      pub text : take n after ≡ entryShown es (length es - 1)
+    pub record Fits : Type 0 where
+      pub size : n ≡ length (pathShown (queryOf es))
+      pub text : take n after ≡ pathShown (queryOf es)
       pub inside : n ≤ length after
 
-    pub fits : {n : ℕ} → end ≡ At n → Fits n
-    fits {n} e = go (rw e at held)
+    pub fits : n ≤ 1024 → Fits
+    fits most = go wrote
       where
-        go : Holds (entryShown es (length es - 1)) (At n) after → Fits n
-        go (up-to size most text) =
+        go : Holds (pathShown (queryOf es)) n after → Fits
+        go (up-to size l front) =
             let taken = length-take n after in
-            let same : length (take n after) ≡ n = ap length text ∙ sym size in
-            record { size = size; most = most; text = text; inside = omega arith }
+            let same : length (take n after) ≡ n = ap length front ∙ sym size in
+            record { size = size; text = front; inside = omega arith }
+        go (no-room e long) = absurd (omega arith)
 
-    pub printed : {n : ℕ} (before room : Bytes) → Fits n → 1024 ≤ length before → room ≡ take n after ++ drop n before
+    pub printed : (before room : Bytes) → n ≤ 1024 → Fits → 1024 ≤ length before → room ≡ take n after ++ drop n before
         → TablePrinted table before (count n) room
     unfolding TablePrinted
-    printed {n} before room f enough copied =
+    printed before room most f enough copied =
         let size = f .size in
-        let most = f .most in
-        done enough (record { query = query; text = entryShown es (length es - 1); printed = fewest; most = omega arith })
+        done enough (record { query = query; text = pathShown (queryOf es); printed = fewest; most = omega arith })
         (record {
-          text = entryShown es (length es - 1);
+          text = pathShown (queryOf es);
           printed = fewest;
           count = size;
           written = record { room = omega arith; bytes = copied ∙ rw (f .text, size) };
         })
 
     -- it does not
-    pub not-printed : {s : Said} (before : Bytes) → end ≡ Full → 1024 ≤ length before → s ≡ refused 18 0
+    pub not-printed : {s : Said} (before : Bytes) → 1024 < n → 1024 ≤ length before → s ≡ refused 18 0
         → TablePrinted table before s before
     unfolding TablePrinted PrintFault
-    not-printed before e enough says = rw says (turned-away enough (behind query (too-long fewest (go (rw e at held)))))
+    not-printed before more enough says = rw says (turned-away enough (behind query (too-long fewest (go wrote))))
       where
-        go : Holds (entryShown es (length es - 1)) Full after → 1024 < length (entryShown es (length es - 1))
-        go (no-room long) = long
+        go : Holds (pathShown (queryOf es)) n after → 1024 < length (pathShown (queryOf es))
+        go (up-to size most front) = absurd (omega arith)
+        go (no-room e long) = long
 
 -- what is copied from the front of a buffer
 pub front-copied : (n : ℕ) (buffer before : Bytes) {room : Bytes} → n ≤ length buffer

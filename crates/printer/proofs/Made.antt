@@ -38,7 +38,7 @@ build-sorted before e listed =
     (refl & refl & refl & refl & refl & refl & refl & refl & refl & refl & refl & refl & refl & refl & refl & refl & no-more) listed .0
 
 -- where nothing is asked for, there are no brackets
-bare : (o c rank : ℕ) (s : Bytes) → held o c 0 rank s ≡ s
+pub bare : (o c rank : ℕ) (s : Bytes) → held o c 0 rank s ≡ s
 unfolding held
 bare o c rank s = rw (le-leb 0 rank (omega arith))
 
@@ -66,7 +66,7 @@ module _ (es : Entries) (i : ℕ) (within : i < length es) where
   held-as path h least = ap (meantHeld least) (sorted es i within path h)
   held-as filter h least = ap (meantHeld least) (sorted es i within filter h)
 
-  pub shown-as : (s : Sort) → HasSort es i s → entryShown es i ≡ shownAs s es i
+  shown-as : (s : Sort) → HasSort es i s → entryShown es i ≡ shownAs s es i
   unfolding entryShown pathAt pathIn filterAt filterIn
   shown-as path h = ap meantShown (sorted es i within path h)
   shown-as filter h = ap meantShown (sorted es i within filter h)

@@ -11,22 +11,21 @@ use Rattle.query.specs.Syntax as syntax
 use Rattle.query.specs.Table.{Entries, entries, Meant, a-path, a-filter, meanings}
 use Rattle.tables.specs.Promise.{EntriesRight}
 use Rattle.shortest.proofs.Shown.{pathHeld, filterHeld, pathShown, filterShown}
-use Rattle.printer.specs.declared.spot.Spot.{Spot}
-use Rattle.printer.specs.declared.spot.Spot.the-variants.{At, Full}
 
 -- A table whose entries are in order has an entry e.
 pub record HasEntry (table : Bytes) (e : ℕ) : Type 0 where
   pub order : EntriesRight table
   pub within : e < length (entries table)
 
--- The text so far is x: it stands at the front of the buffer, up to the spot; or it has no room there.
-pub data Holds (x : Bytes) : Spot → Bytes → Type 0 where
-  up-to : {n : ℕ} {out : Bytes} → n ≡ length x → n ≤ 1024 → take n out ≡ x → Holds x (At n) out
-  no-room : {out : Bytes} → 1024 < length x → Holds x Full out
+-- The text so far is x: it stands at the front of the buffer, and n is its length; or it is too long for it, and its length is counted no
+-- further than 1,025.
+pub data Holds (x : Bytes) : ℕ → Bytes → Type 0 where
+  up-to : {n : ℕ} {out : Bytes} → n ≡ length x → n ≤ 1024 → take n out ≡ x → Holds x n out
+  no-room : {n : ℕ} {out : Bytes} → n ≡ 1025 → 1024 < length x → Holds x n out
 
 -- Whatever the text so far is, s is behind it now.
-pub record Goes (s before : Bytes) (spot r : Spot) (after : Bytes) : Type 0 where
-  pub on : (x : Bytes) → Holds x spot before → Holds (x ++ s) r after
+pub record Goes (s before : Bytes) (n m : ℕ) (after : Bytes) : Type 0 where
+  pub on : (x : Bytes) → Holds x n before → Holds (x ++ s) m after
 
 -- the text of what an entry stands for
 abbrev pub meantShown : Meant → Bytes

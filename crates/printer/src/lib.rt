@@ -1,17 +1,16 @@
 // A query table is printed as text. The text is written into a local buffer, and the lent room only once all of it fits.
 mod entries;
 mod kinds;
-mod spot;
 mod symbols;
+mod writing;
 
-use entries::show;
+use entries::hold;
 use reply::CURATOR_ENTRIES;
 use reply::CURATOR_HEIGHT;
 use reply::Reason;
 use reply::Reply;
 use reply::TEXT_BYTES;
 use reply::refuse;
-use spot::Spot;
 use tables::check_query;
 ghost use Rattle.reply.specs.Reply.{said};
 ghost use Rattle.text.specs.Print.{TablePrinted};
@@ -28,12 +27,10 @@ pub fn print_query(query: &[u8], room: &mut [u8]) -> Reply
         return checked;
     };
     let mut text = [0u8; TEXT_BYTES];
-    let end = show(query, entries - 1, &mut text, Spot::At(0));
-    match end {
-        Spot::At(size) => {
-            bytes::copy(&text[..size], room);
-            Reply::Count(size)
-        }
-        Spot::Full => refuse(Reason::TextTooLong, 0),
+    let size = hold(query, entries - 1, 0, &mut text, 0);
+    if size > TEXT_BYTES {
+        return refuse(Reason::TextTooLong, 0);
     }
+    bytes::copy(&text[..size], room);
+    Reply::Count(size)
 }

@@ -1,6 +1,5 @@
 // The bytes of the grammar that stand for a kind of entry, and how tightly each kind is joined.
-use crate::spot::Spot;
-use crate::spot::put;
+use crate::writing::put;
 use reply::wide;
 ghost use mathlib.Core.Path.{_≡_};
 ghost use Prim.Native.Nat.{_≤_};
@@ -88,13 +87,13 @@ pub(crate) fn closing(kind: usize) -> u8
 }
 
 // "1 to 64 in decimal, no leading zero"
-pub(crate) fn put_label(out: &mut [u8; 1024], spot: Spot, label: usize) -> Spot
+pub(crate) fn put_label(out: &mut [u8; 1024], size: usize, label: usize) -> usize
     requires { ⌜ label ≤ 64 ⌝ }
-    ensures { λ r. ⌜ Goes (labelShown label) (now (out .entry)) spot r (now (out .exit)) ⌝ }
+    ensures { λ r. ⌜ Goes (labelShown label) (now (out .entry)) size r (now (out .exit)) ⌝ }
 {
     if label < 10 {
-        return put(out, spot, b'0' + label as u8);
+        return put(out, size, b'0' + label as u8);
     }
-    let tens = put(out, spot, b'0' + (label / 10) as u8);
+    let tens = put(out, size, b'0' + (label / 10) as u8);
     put(out, tens, b'0' + (label % 10) as u8)
 }

@@ -17,14 +17,14 @@ checked : (c : tie.After-checked) → let s = c .before .before .before .before 
     Query curators (now (s .args .query)) × (c .checked .given .0 .0 ≡ length (entries (now (s .args .query))))
 checked c = right-counted (c .checked .given .1) (c .before .before .check-query .ensures)
 
--- Its text is shown, and fits.
-held : (c : tie.After-end) → let shown = c .before .before in
+-- Its text is held, and fits.
+held : (c : tie.Else2) → let shown = c .before in
     let (query, count) = checked (shown .before .before .before) in
-    Fits query (rw count at (shown .show .ensures)) (c .end .given .0 .0)
+    Fits query (rw count at (shown .hold .ensures))
 held c =
-    let shown = c .before .before in
+    let shown = c .before in
     let (query, count) = checked (shown .before .before .before) in
-    fits query (rw count at (shown .show .ensures)) (c .end .given .1)
+    fits query (rw count at (shown .hold .ensures)) (c .if2 .left)
 
 refuse-requires : tie.Need-refuse-requires
 refuse-requires c κs = search needs
@@ -46,51 +46,46 @@ returns-2 c =
     let check = c .before .before in
     refused-table _ _ (check .check-query .result) (c .before .match .keys2) (check .check-query .ensures) (search needs)
 
-sub-show : tie.Need-sub-show
-sub-show c = let (query, count) = checked (c .before) in omega (arith, last-within query)
+sub-hold : tie.Need-sub-hold
+sub-hold c = let (query, count) = checked (c .before) in omega (arith, last-within query)
 
-show-requires : tie.Need-show-requires
-show-requires c κs =
+hold-requires : tie.Need-hold-requires
+hold-requires c κs =
     let (query, count) = checked (c .before .before) in
     record { order = λ i l. query .entry i l .right; within = omega (arith, last-within query, count) }
-
-enum-known-end : tie.Need-enum-known-end
-enum-known-end c = search needs
-
-array-share-prefix-text : tie.Need-array-share-prefix-text
-array-share-prefix-text c = held (c .before) .inside
-
-slice-aggregate-copy : tie.Need-slice-aggregate-copy
-slice-aggregate-copy c = sym (length-take-le _ _ (held (c .before .before) .inside))
-
-copy-requires : tie.Need-copy-requires
-copy-requires c κs =
-    let fit = held (c .before .before .before) in
-    rw (length-take-le _ _ (fit .inside)) (omega (arith, fit .most))
-
-enum-told-2 : tie.Need-enum-told-2
-enum-told-2 c = search needs
 
 refuse-requires-2 : tie.Need-refuse-requires-2
 refuse-requires-2 c κs = search needs
 
+returns-3 : tie.Need-returns-3
+returns-3 c =
+    let shown = c .before .before in
+    let (query, count) = checked (shown .before .before .before) in
+    not-printed query (rw count at (shown .hold .ensures)) _ (c .before .if2 .taken) (search needs) (c .refuse2 .ensures)
+
+array-share-prefix-text : tie.Need-array-share-prefix-text
+array-share-prefix-text c = held c .inside
+
+slice-aggregate-copy : tie.Need-slice-aggregate-copy
+slice-aggregate-copy c = sym (length-take-le _ _ (held (c .before) .inside))
+
+copy-requires : tie.Need-copy-requires
+copy-requires c κs =
+    let fit = held (c .before .before) in
+    rw (length-take-le _ _ (fit .inside)) (search needs)
+
 same-length : tie.Need-same-length
 same-length c = search needs
 
-returns-3 : tie.Need-returns-3
-returns-3 c =
-    let copied = c .before .before in
-    let ended = copied .before .before .before .before in
-    let shown = ended .before .before in
-    let (query, count) = checked (shown .before .before .before) in
-    let fit = held ended in
-    printed query (rw count at (shown .show .ensures)) _ _ fit (search needs) (front-copied _ _ _ (fit .inside) (copied .copy .ensures .1))
-
 returns-4 : tie.Need-returns-4
 returns-4 c =
-    let shown = c .before .before .before in
+    let copied = c .before .before in
+    let fitted = copied .before .before .before in
+    let shown = fitted .before in
     let (query, count) = checked (shown .before .before .before) in
-    not-printed query (rw count at (shown .show .ensures)) _ (c .before .enum-told2 .given .1) (search needs) (c .refuse2 .ensures)
+    let fit = held fitted in
+    printed query (rw count at (shown .hold .ensures)) _ _ (fitted .if2 .left) fit (search needs)
+    (front-copied _ _ _ (fit .inside) (copied .copy .ensures .1))
 
 pub print-query-spec : {M : Type 1} → statement M
 print-query-spec =
@@ -102,14 +97,12 @@ print-query-spec =
     enum-known-checked
     enum-told
     returns-2
-    sub-show
-    show-requires
-    enum-known-end
+    sub-hold
+    hold-requires
+    refuse-requires-2
+    returns-3
     array-share-prefix-text
     slice-aggregate-copy
     copy-requires
-    enum-told-2
-    refuse-requires-2
     same-length
-    returns-3
     returns-4)

@@ -16,7 +16,7 @@ use Rattle.printer.proofs.entries.+hold+show.Proof.Measures.{μ-hold, �
 use Rattle.printer.proofs.entries.+hold+show.Lts-show as lts
 use Rattle.printer.proofs.entries.hold.Reads as hold
 use Rattle.printer.proofs.entries.show.Reads as show
-use Rattle.printer.proofs.spot.put.Reads as put
+use Rattle.printer.proofs.writing.put.Reads as put
 use Rattle.printer.proofs.symbols.put_label.Reads as put-label
 use Rattle.printer.proofs.symbols.rank.Reads as rank
 use Rattle.printer.proofs.symbols.symbol.Reads as symbol
