@@ -61,7 +61,7 @@ shownAs path es i = pathShown (pathAt es i)
 shownAs filter es i = filterShown (filterAt es i)
 
 module _ (es : Entries) (i : ℕ) (within : i < length es) where
-  pub held-as : (s : Sort) → HasSort es i s → (least : ℕ) → entryHeld least es i ≡ heldAs s least es i
+  held-as : (s : Sort) → HasSort es i s → (least : ℕ) → entryHeld least es i ≡ heldAs s least es i
   unfolding entryHeld pathAt pathIn filterAt filterIn
   held-as path h least = ap (meantHeld least) (sorted es i within path h)
   held-as filter h least = ap (meantHeld least) (sorted es i within filter h)
@@ -242,7 +242,7 @@ module _ {table : Bytes} {e : ℕ} (has : HasEntry table e) where
       rw (read-at mean es e (a-path syntax.self) blank (has .within), right .listed, mean) (rw number at (same number))
 
   -- in brackets, by its kind: where it is looser than asked for
-  pub held-by : (least : ℕ)
+  held-by : (least : ℕ)
       → entryHeld least es e ≡ held (openingFor (own .kind)) (closingFor (own .kind)) least (getD ranks (own .kind) 0) (entryShown es e)
   unfolding entryHeld entryShown meanings mean rowAt entryAt
   held-by least =

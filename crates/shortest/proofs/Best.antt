@@ -44,19 +44,19 @@ pub opens-append : (s u : Bytes) → opens (s ++ u) ≡ opens s + opens u
 opens-append s u = how-many-append opening s u
 
 -- parts that are the best make the best whole
-pub both-best : {s u s′ u′ : Bytes} → Best s s′ → Best u u′ → Best (s ++ u) (s′ ++ u′)
+both-best : {s u s′ u′ : Bytes} → Best s s′ → Best u u′ → Best (s ++ u) (s′ ++ u′)
 both-best {s} {u} {s′} {u′} (inl e) (inl f) = inl (ap₂ (λ (x y : Bytes). x ++ y) e f)
 both-best {s} {u} {s′} {u′} (inl e) (inr l) = inr (rw (opens-append s u, opens-append s′ u′, e) (omega arith))
 both-best {s} {u} {s′} {u′} (inr l) b = let h = no-fewer b in inr (rw (opens-append s u, opens-append s′ u′) (omega arith))
 
 -- a text before and behind bytes that are no question
-pub ahead : (c : ℕ) {u s : Bytes} → Best u s → Best (c ∷ u) (c ∷ s)
+ahead : (c : ℕ) {u s : Bytes} → Best u s → Best (c ∷ u) (c ∷ s)
 ahead c b = both-best {s = c ∷ []} {s′ = c ∷ []} (inl refl) b
 
-pub joined : (c : ℕ) {s u s′ u′ : Bytes} → Best s s′ → Best u u′ → Best (s ++ c ∷ u) (s′ ++ c ∷ u′)
+joined : (c : ℕ) {s u s′ u′ : Bytes} → Best s s′ → Best u u′ → Best (s ++ c ∷ u) (s′ ++ c ∷ u′)
 joined c a b = both-best a (ahead c b)
 
-pub enclosed : (o c : ℕ) {u s : Bytes} → Best u s → Best (between o c u) (between o c s)
+enclosed : (o c : ℕ) {u s : Bytes} → Best u s → Best (between o c u) (between o c s)
 unfolding between
 enclosed o c b = ahead o (joined c b (inl refl))
 
@@ -77,12 +77,12 @@ module _ (o c : ℕ) (bracket : T (opening o)) where
   bare-cond false s (inl h) = inr (rw h (opens-between s))
   bare-cond false s (inr h) = let k = opens-between s in inr (omega arith)
 
-  pub bare : (most rank : ℕ) {u : Bytes} (s : Bytes) → Best u (held o c most rank s) → Best u s
+  bare : (most rank : ℕ) {u : Bytes} (s : Bytes) → Best u (held o c most rank s) → Best u s
   unfolding held
   bare most rank s b = bare-cond (leb most rank) s b
 
   -- and where less is asked for
-  pub loosen : {least most : ℕ} → least ≤ most → (rank : ℕ) {u : Bytes} (s : Bytes) → Best u (held o c most rank s)
+  loosen : {least most : ℕ} → least ≤ most → (rank : ℕ) {u : Bytes} (s : Bytes) → Best u (held o c most rank s)
       → Best u (held o c least rank s)
   unfolding held
   loosen {least} {most} l rank {u} s b = go (leb least rank) (leb most rank) refl refl b
@@ -93,7 +93,7 @@ module _ (o c : ℕ) (bracket : T (opening o)) where
       go false true e f b = let h = leb-false least rank e in let k = leb-true most rank f in absurd (omega arith)
 
   -- brackets that are written are the best there is, or too many
-  pub bracketed : (least rank : ℕ) {u s : Bytes} → Best u s → Best (between o c u) (held o c least rank s)
+  bracketed : (least rank : ℕ) {u s : Bytes} → Best u s → Best (between o c u) (held o c least rank s)
   unfolding held
   bracketed least rank {u} {s} b = go (leb least rank)
     where
