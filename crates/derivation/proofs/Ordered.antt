@@ -18,7 +18,7 @@ use Rattle.text.specs.Grammar as grammar
 use Rattle.text.specs.Written.{pathEntries, filterEntries, tableOf}
 
 -- a label of a text is a label
-label-read : {s : Bytes} {l : ℕ} → LabelText s l → Label l
+pub label-read : {s : Bytes} {l : ℕ} → LabelText s l → Label l
 label-read (one-digit a b) = record { least = a; most = omega arith }
 label-read (two-digits a b c) = record { least = omega arith; most = c }
 

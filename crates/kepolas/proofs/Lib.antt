@@ -1,3 +1,4 @@
 mod Refusals
 mod Parts
 pub mod Unique
+pub mod Again

@@ -24,7 +24,7 @@ use Rattle.shortest.proofs.Shown.{pathHeld, pathShown}
 use Rattle.shortest.proofs.Texts.{shown-fewest}
 use Rattle.shortest.proofs.Queries.{query-limited}
 use Rattle.printer.specs.Printing.{Holds, up-to, no-room, Goes, entryHeld}
-use Rattle.printer.proofs.Made.{bare, held-as}
+use Rattle.printer.proofs.Made.{unbracketed, held-as}
 
 module _ (table before : Bytes) where
   -- the room is too short
@@ -54,7 +54,7 @@ module _ {table : Bytes} (query : Query curators table) where
   -- whose text, where nothing is asked for, is what is shown for its path,
   held-path : entryHeld 0 es (length es - 1) ≡ pathShown (queryOf es)
   unfolding last queryOf pathHeld
-  held-path = held-as es (length es - 1) last-within path (query .path) 0 ∙ bare _ _ _ _
+  held-path = held-as es (length es - 1) last-within path (query .path) 0 ∙ unbracketed _ _ _ _
 
   -- the one with the fewest brackets
   fewest : Fewest (queryOf es) (pathShown (queryOf es))

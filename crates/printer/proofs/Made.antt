@@ -38,9 +38,9 @@ build-sorted before e listed =
     (refl & refl & refl & refl & refl & refl & refl & refl & refl & refl & refl & refl & refl & refl & refl & refl & no-more) listed .0
 
 -- where nothing is asked for, there are no brackets
-pub bare : (o c rank : ℕ) (s : Bytes) → held o c 0 rank s ≡ s
+pub unbracketed : (o c rank : ℕ) (s : Bytes) → held o c 0 rank s ≡ s
 unfolding held
-bare o c rank s = rw (le-leb 0 rank (omega arith))
+unbracketed o c rank s = rw (le-leb 0 rank (omega arith))
 
 module _ (es : Entries) (i : ℕ) (within : i < length es) where
   -- an entry of a sort stands for something of the sort
@@ -61,7 +61,7 @@ shownAs path es i = pathShown (pathAt es i)
 shownAs filter es i = filterShown (filterAt es i)
 
 module _ (es : Entries) (i : ℕ) (within : i < length es) where
-  held-as : (s : Sort) → HasSort es i s → (least : ℕ) → entryHeld least es i ≡ heldAs s least es i
+  pub held-as : (s : Sort) → HasSort es i s → (least : ℕ) → entryHeld least es i ≡ heldAs s least es i
   unfolding entryHeld pathAt pathIn filterAt filterIn
   held-as path h least = ap (meantHeld least) (sorted es i within path h)
   held-as filter h least = ap (meantHeld least) (sorted es i within filter h)
@@ -116,7 +116,7 @@ module _ {table : Bytes} {e : ℕ} (has : HasEntry table e) where
   unfolding kinds find pathShown between filterHeld
   stay-shown is =
       let (f, same) = standing.stay-stands es e (has .within) own refl right is in
-      around path filter 0 (λ x. code "[" ∷ x ++ code "]" ∷ []) (of-sort 6 refl is) f (rw (same, bare) refl)
+      around path filter 0 (λ x. code "[" ∷ x ++ code "]" ∷ []) (of-sort 6 refl is) f (rw (same, unbracketed) refl)
 
   pub star-shown : own .kind ≡ 9 → (own .left < e) × (entryShown es e ≡ entryHeld 2 es (own .left) ++ code "*" ∷ [])
   unfolding kinds find pathShown
@@ -128,7 +128,7 @@ module _ {table : Bytes} {e : ℕ} (has : HasEntry table e) where
   unfolding kinds find filterShown pathHeld
   leads-shown is =
       let (f, same) = standing.leads-stands es e (has .within) own refl right is in
-      around filter path 0 (λ x. x) (of-sort 17 refl is) f (rw (same, bare) refl)
+      around filter path 0 (λ x. x) (of-sort 17 refl is) f (rw (same, unbracketed) refl)
 
   pub not-shown : own .kind ≡ 20 → (own .left < e) × (entryShown es e ≡ code "!" ∷ entryHeld 2 es (own .left))
   unfolding kinds find filterShown
@@ -160,7 +160,7 @@ module _ {table : Bytes} {e : ℕ} (has : HasEntry table e) where
   unfolding kinds find pathShown pathHeld
   either-shown is =
       let ((f, g), same) = standing.either-stands es e (has .within) own refl right is in
-      joined path 0 (code "|") (of-sort 8 refl is) f g (rw (same, bare) refl)
+      joined path 0 (code "|") (of-sort 8 refl is) f g (rw (same, unbracketed) refl)
 
   and-shown : own .kind ≡ 21 → Joined 1 (code "&")
   unfolding kinds find filterShown
@@ -172,7 +172,7 @@ module _ {table : Bytes} {e : ℕ} (has : HasEntry table e) where
   unfolding kinds find filterShown filterHeld
   or-shown is =
       let ((f, g), same) = standing.or-stands es e (has .within) own refl right is in
-      joined filter 0 (code "+") (of-sort 22 refl is) f g (rw (same, bare) refl)
+      joined filter 0 (code "+") (of-sort 22 refl is) f g (rw (same, unbracketed) refl)
 
   -- by its rank and its symbol: only the kinds that join two are so loose
   pub joined-shown : getD ranks (own .kind) 0 < 2 → Joined (getD ranks (own .kind) 0) (getD symbols (own .kind) 0)

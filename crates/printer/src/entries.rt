@@ -18,7 +18,7 @@ ghost use Rattle.query.specs.Table.{entries};
 ghost use Rattle.printer.specs.Printing.{HasEntry, Goes, entryShown, entryHeld};
 
 // The text of entry e with no brackets around it.
-fn show(table: &[u8], e: usize, out: &mut [u8; 1024], size: usize) -> usize
+fn show(table: &[u8], e: usize, out: &mut [u8; TEXT_BYTES], size: usize) -> usize
     requires { ⌜ HasEntry (now table) e ⌝ }
     ensures { λ r. ⌜ Goes (entryShown (entries (now (table .entry))) e) (now (out .entry)) size r (now (out .exit)) ⌝ }
 {
@@ -56,7 +56,13 @@ fn show(table: &[u8], e: usize, out: &mut [u8; 1024], size: usize) -> usize
 
 // The text of entry e where at least a rank is asked for: in brackets if it is joined more loosely. A text that is full already is left
 // alone, so that no entry is unfolded for nothing.
-pub(crate) fn hold(table: &[u8], e: usize, least: usize, out: &mut [u8; 1024], size: usize) -> usize
+pub(crate) fn hold(
+    table: &[u8],
+    e: usize,
+    least: usize,
+    out: &mut [u8; TEXT_BYTES],
+    size: usize,
+) -> usize
     requires { ⌜ HasEntry (now table) e ⌝ }
     ensures { λ r. ⌜ Goes (entryHeld least (entries (now (table .entry))) e) (now (out .entry)) size r (now (out .exit)) ⌝ }
 {

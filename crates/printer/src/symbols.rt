@@ -1,5 +1,6 @@
 // The bytes of the grammar that stand for a kind of entry, and how tightly each kind is joined.
 use crate::writing::put;
+use reply::TEXT_BYTES;
 use reply::wide;
 ghost use mathlib.Core.Path.{_≡_};
 ghost use Prim.Native.Nat.{_≤_};
@@ -87,7 +88,7 @@ pub(crate) fn closing(kind: usize) -> u8
 }
 
 // "1 to 64 in decimal, no leading zero"
-pub(crate) fn put_label(out: &mut [u8; 1024], size: usize, label: usize) -> usize
+pub(crate) fn put_label(out: &mut [u8; TEXT_BYTES], size: usize, label: usize) -> usize
     requires { ⌜ label ≤ 64 ⌝ }
     ensures { λ r. ⌜ Goes (labelShown label) (now (out .entry)) size r (now (out .exit)) ⌝ }
 {

@@ -7,7 +7,7 @@ ghost use Rattle.printer.specs.Printing.{Goes};
 pub(crate) const TOO_LONG: usize = TEXT_BYTES + 1;
 
 // One byte more, behind a text of `size` bytes. Gives the length with it.
-pub(crate) fn put(out: &mut [u8; 1024], size: usize, byte: u8) -> usize
+pub(crate) fn put(out: &mut [u8; TEXT_BYTES], size: usize, byte: u8) -> usize
     ensures { λ r. ⌜ Goes (byte ∷ []) (now (out .entry)) size r (now (out .exit)) ⌝ }
 {
     let all: &mut [u8] = out;

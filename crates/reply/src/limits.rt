@@ -1,4 +1,4 @@
-// The limits of document 01: how large an input may be, and how much room an output asks for.
+// The limits of documents 01 and 02: how large an input may be, and how much room an output asks for.
 
 // "A roll has 1 to 4,096 nodes."
 pub const NODES: usize = 4096;
@@ -22,7 +22,7 @@ pub const ANSWER_ENTRIES: usize = 1024;
 
 pub const ANSWER_HEIGHT: u16 = 128;
 
-// "ASCII, 1 to 1,024 bytes"
+// "ASCII, 1 to 1,024 bytes"; and the room of a text that is printed, "1,024 bytes"
 pub const TEXT_BYTES: usize = 1024;
 
 // "a bracket is opened while 32 are open": no more may be open at once.

@@ -21,12 +21,12 @@ use Rattle.derivation.proofs.Back.{table-back, query-back}
 use Rattle.derivation.proofs.Accepted.{text-query}
 use Rattle.derivation.proofs.Unique.{text-read-one}
 use Rattle.shortest.proofs.Shown.{pathShown}
-use Rattle.shortest.proofs.Texts.{shown-fewest}
+use Rattle.shortest.proofs.Texts.{shown-fewest, fewest-shown}
 use Rattle.shortest.proofs.Length.{fewest-shortest, text-some}
 use Rattle.shortest.proofs.Heights.{table-low}
 use Rattle.shortest.proofs.Queries.{Limited, query-limited}
 use Rattle.shortest.proofs.Shallow.{shown-shallow}
-use Rattle.shortest.proofs.Unique.{print-wrong, printed-shown}
+use Rattle.shortest.proofs.Unique.{print-wrong}
 
 -- A path within the limits whose text is short enough:
 module _ (p : Path) (limited : Limited curators p) (most : length (pathShown p) ≤ 1024) where
@@ -100,8 +100,8 @@ printed table room text c x = elim x [ done large right given ↦ of right given
         let front : take c text ≡ given .text = ap (take c) (given .written .bytes) ∙ take-at (given .text) _ c (sym (given .count)) in
         record {
           limited = query-limited (right .query);
-          most = rw (printed-shown table right (right .printed)) at (right .most);
-          front = front ∙ printed-shown table right (given .printed);
+          most = rw (fewest-shown (right .printed)) at (right .most);
+          front = front ∙ fewest-shown (given .printed);
         }
 
 module _ {p : Path} {c : ℕ} {text : Bytes} (x : Printed p c text) where

@@ -65,9 +65,9 @@ below-more l x = record { fewer = λ k. omega (arith, x .fewer k); leaves = x .l
 -- a byte that opens a bracket, and one that closes it
 module _ (o c : ℕ) (up : Turns o 1 0) (down : Turns c 0 1) where
   -- between them there is one more
-  enclosed : {h : ℕ} {s : Bytes} → Below h s → Below (suc h) (between o c s)
+  enclosed-below : {h : ℕ} {s : Bytes} → Below h s → Below (suc h) (between o c s)
   unfolding between howMany
-  enclosed {h} {s} x =
+  enclosed-below {h} {s} x =
       let inside : Nests (suc h) 1 s 1 = record { fewer = λ k. omega (arith, x .fewer k); leaves = omega (arith, x .leaves) } in
       let some : 0 < h = omega (arith, x .fewer 0) in
       both (byte up (omega arith) (omega arith) (omega arith)) (both inside (byte down (omega arith) (omega arith) (omega arith)))
@@ -79,16 +79,16 @@ module _ (o c : ℕ) (up : Turns o 1 0) (down : Turns c 0 1) where
     where
       go : (y : Bool) → Below k (cond y s (between o c s))
       go true = below-more (omega arith) x
-      go false = below-more (omega arith) (enclosed x)
+      go false = below-more (omega arith) (enclosed-below x)
 
 -- a byte that is no bracket
 plain : {c : ℕ} → Turns c 0 0 → Below 1 (c ∷ [])
 plain t = byte t (omega arith) (omega arith) (omega arith)
 
--- texts joined by one
-joined : (c : ℕ) {h : ℕ} {s u : Bytes} → Turns c 0 0 → Below h s → Below h u → Below h (s ++ c ∷ u)
+-- texts joined-below by one
+joined-below : (c : ℕ) {h : ℕ} {s u : Bytes} → Turns c 0 0 → Below h s → Below h u → Below h (s ++ c ∷ u)
 unfolding howMany
-joined c {h} t x y = let some : 0 < h = omega (arith, x .fewer 0) in both x (both (below-more (omega arith) (plain t)) y)
+joined-below c {h} t x y = let some : 0 < h = omega (arith, x .fewer 0) in both x (both (below-more (omega arith) (plain t)) y)
 
 -- a digit is none
 digit : {d : ℕ} → d ≤ 9 → Below 1 ((48 + d) ∷ [])
@@ -108,15 +108,15 @@ label-below l h = go (ltb l 10) refl
     go false e = both (digit {d = l / 10} (omega (arith, h .most))) (digit {d = l % 10} (omega arith))
 
 -- an operand, in brackets or not
-path-held : (least : ℕ) (p : Path) {h : ℕ} → pathHeight p < h → Below (pathHeight p) (pathShown p)
+path-held-below : (least : ℕ) (p : Path) {h : ℕ} → pathHeight p < h → Below (pathHeight p) (pathShown p)
     → Below h (pathHeld least p (pathShown p))
 unfolding pathHeld howMany opening closing
-path-held least p l x = held-below 40 41 (refl, refl) (refl, refl) least (pathRank p) l x
+path-held-below least p l x = held-below 40 41 (refl, refl) (refl, refl) least (pathRank p) l x
 
-filter-held : (least : ℕ) (f : Filter) {h : ℕ} → filterHeight f < h → Below (filterHeight f) (filterShown f)
+filter-held-below : (least : ℕ) (f : Filter) {h : ℕ} → filterHeight f < h → Below (filterHeight f) (filterShown f)
     → Below h (filterHeld least f (filterShown f))
 unfolding filterHeld howMany opening closing
-filter-held least f l x = held-below 123 125 (refl, refl) (refl, refl) least (filterRank f) l x
+filter-held-below least f l x = held-below 123 125 (refl, refl) (refl, refl) least (filterRank f) l x
 
 -- what is shown, by induction over paths and filters
 mutual
@@ -128,23 +128,23 @@ mutual
   path-below parent h = plain (refl, refl)
   path-below next h = plain (refl, refl)
   path-below previous h = plain (refl, refl)
-  path-below (stay f) h = enclosed 91 93 (refl, refl) (refl, refl) (filter-below f h)
+  path-below (stay f) h = enclosed-below 91 93 (refl, refl) (refl, refl) (filter-below f h)
   path-below (then p q) h =
-      joined 47 (refl, refl) (path-held 1 p (omega arith) (path-below p (h .0))) (path-held 2 q (omega arith) (path-below q (h .1)))
+      joined-below 47 (refl, refl) (path-held-below 1 p (omega arith) (path-below p (h .0))) (path-held-below 2 q (omega arith) (path-below q (h .1)))
   path-below (either p q) h =
-      joined 124 (refl, refl) (below-more (omega arith) (path-below p (h .0))) (path-held 1 q (omega arith) (path-below q (h .1)))
-  path-below (star p) h = both (path-held 2 p (omega arith) (path-below p h)) (below-more (omega arith) (plain (refl, refl)))
+      joined-below 124 (refl, refl) (below-more (omega arith) (path-below p (h .0))) (path-held-below 1 q (omega arith) (path-below q (h .1)))
+  path-below (star p) h = both (path-held-below 2 p (omega arith) (path-below p h)) (below-more (omega arith) (plain (refl, refl)))
 
   filter-below : (f : Filter) → FilterLabels f → Below (filterHeight f) (filterShown f)
   filter-below (labelled l) h = both (plain (refl, refl)) (label-below l h)
   filter-below (leads p) h = below-more (omega arith) (path-below p h)
   filter-below always h = plain (refl, refl)
   filter-below never h = plain (refl, refl)
-  filter-below (not f) h = both (below-more (omega arith) (plain (refl, refl))) (filter-held 2 f (omega arith) (filter-below f h))
+  filter-below (not f) h = both (below-more (omega arith) (plain (refl, refl))) (filter-held-below 2 f (omega arith) (filter-below f h))
   filter-below (and f g) h =
-      joined 38 (refl, refl) (filter-held 1 f (omega arith) (filter-below f (h .0))) (filter-held 2 g (omega arith) (filter-below g (h .1)))
+      joined-below 38 (refl, refl) (filter-held-below 1 f (omega arith) (filter-below f (h .0))) (filter-held-below 2 g (omega arith) (filter-below g (h .1)))
   filter-below (or f g) h =
-      joined 43 (refl, refl) (below-more (omega arith) (filter-below f (h .0))) (filter-held 1 g (omega arith) (filter-below g (h .1)))
+      joined-below 43 (refl, refl) (below-more (omega arith) (filter-below f (h .0))) (filter-held-below 1 g (omega arith) (filter-below g (h .1)))
 
 -- "a bracket is opened while 32 are open": nowhere in what is shown for a path that is at most 32 high.
 pub shown-shallow : (p : Path) → PathLabels p → pathHeight p ≤ 32 → (k : ℕ) → ¬ OneTooMany (pathShown p) k

@@ -14,6 +14,7 @@ use Rattle.query.specs.Syntax.{Filter, labelled, leads, always, never, not, and
 use Rattle.text.specs.Grammar as grammar
 use Rattle.text.specs.Grammar.{LabelText, PathText, SequenceText, ItemText, AtomText, FilterText, ConjunctionText, TermText}
 use Rattle.text.specs.Print.{Fewest}
+use Rattle.derivation.proofs.Ordered.{label-read}
 use Rattle.shortest.proofs.Shown.{pathRank, filterRank, between, held, pathHeld, filterHeld, labelShown, pathShown, filterShown}
 use Rattle.shortest.proofs.Best.{Best, path-best, no-fewer}
 
@@ -38,6 +39,36 @@ abbrev mutual
   FilterLabels (not f) = FilterLabels f
   FilterLabels (and f g) = FilterLabels f × FilterLabels g
   FilterLabels (or f g) = FilterLabels f × FilterLabels g
+
+-- so it is where the path has a text
+text-labels : {s : Bytes} {p : Path} → PathText s p → PathLabels p
+text-labels x =
+    elim x as (λ s p y. PathLabels p) (λ s p y. PathLabels p) (λ s p y. PathLabels p) (λ s p y. PathLabels p)
+    (λ s f y. FilterLabels f) (λ s f y. FilterLabels f) (λ s f y. FilterLabels f) [
+      | grammar.one-sequence (x → h) ↦ h
+      | grammar.bar (x → h) (y → k) ↦ (h, k)
+      | grammar.one-item (x → h) ↦ h
+      | grammar.slash (x → h) (y → k) ↦ (h, k)
+      | grammar.an-atom (x → h) ↦ h
+      | grammar.starred (x → h) ↦ h
+      | grammar.dot ↦ tt
+      | grammar.letter-v ↦ tt
+      | grammar.caret ↦ tt
+      | grammar.greater ↦ tt
+      | grammar.less ↦ tt
+      | grammar.square (x → h) ↦ h
+      | grammar.round (x → h) ↦ h
+      | grammar.one-conjunction (x → h) ↦ h
+      | grammar.plus (x → h) (y → k) ↦ (h, k)
+      | grammar.one-term (x → h) ↦ h
+      | grammar.ampersand (x → h) (y → k) ↦ (h, k)
+      | grammar.exclamation (x → h) ↦ h
+      | grammar.letter-t ↦ tt
+      | grammar.letter-f ↦ tt
+      | grammar.hash x ↦ label-read x
+      | grammar.curly (x → h) ↦ h
+      | grammar.a-path (x → h) ↦ h
+    ]
 
 -- a label's text
 label-text : (l : ℕ) → Label l → LabelText (labelShown l) l
@@ -78,11 +109,11 @@ PathAt p (suc zero) s = SequenceText s p
 PathAt p (suc (suc zero)) s = ItemText s p
 PathAt p (suc (suc (suc n))) s = AtomText s p
 
-looser-path : (p : Path) (rank : ℕ) (s : Bytes) → PathAt p (suc rank) s → PathAt p rank s
-looser-path p zero s x = grammar.one-sequence x
-looser-path p (suc zero) s x = grammar.one-item x
-looser-path p (suc (suc zero)) s x = grammar.an-atom x
-looser-path p (suc (suc (suc n))) s x = x
+eased-path : (p : Path) (rank : ℕ) (s : Bytes) → PathAt p (suc rank) s → PathAt p rank s
+eased-path p zero s x = grammar.one-sequence x
+eased-path p (suc zero) s x = grammar.one-item x
+eased-path p (suc (suc zero)) s x = grammar.an-atom x
+eased-path p (suc (suc (suc n))) s x = x
 
 -- and of a filter
 abbrev FilterAt : Filter → ℕ → Bytes → Type 0
@@ -90,27 +121,27 @@ FilterAt f zero s = FilterText s f
 FilterAt f (suc zero) s = ConjunctionText s f
 FilterAt f (suc (suc n)) s = TermText s f
 
-looser-filter : (f : Filter) (rank : ℕ) (s : Bytes) → FilterAt f (suc rank) s → FilterAt f rank s
-looser-filter f zero s x = grammar.one-conjunction x
-looser-filter f (suc zero) s x = grammar.one-term x
-looser-filter f (suc (suc n)) s x = x
+eased-filter : (f : Filter) (rank : ℕ) (s : Bytes) → FilterAt f (suc rank) s → FilterAt f rank s
+eased-filter f zero s x = grammar.one-conjunction x
+eased-filter f (suc zero) s x = grammar.one-term x
+eased-filter f (suc (suc n)) s x = x
 
 -- with brackets where they are needed, and with none
 module _ (p : Path) (x : PathAt p (pathRank p) (pathShown p)) where
   path-held : (least : ℕ) → least ≤ 3 → PathAt p least (pathHeld least p (pathShown p))
   unfolding pathHeld between
-  path-held least l = held-text (PathAt p) (looser-path p) 40 41 3 (λ s y. grammar.round y) least (pathRank p) l (pathShown p) x
+  path-held least l = held-text (PathAt p) (eased-path p) 40 41 3 (λ s y. grammar.round y) least (pathRank p) l (pathShown p) x
 
   path-bare : PathText (pathShown p) p
-  path-bare = eased (PathAt p) (looser-path p) 0 (pathRank p) (omega arith) (pathShown p) x
+  path-bare = eased (PathAt p) (eased-path p) 0 (pathRank p) (omega arith) (pathShown p) x
 
 module _ (f : Filter) (x : FilterAt f (filterRank f) (filterShown f)) where
   filter-held : (least : ℕ) → least ≤ 2 → FilterAt f least (filterHeld least f (filterShown f))
   unfolding filterHeld between
-  filter-held least l = held-text (FilterAt f) (looser-filter f) 123 125 2 (λ s y. grammar.curly y) least (filterRank f) l (filterShown f) x
+  filter-held least l = held-text (FilterAt f) (eased-filter f) 123 125 2 (λ s y. grammar.curly y) least (filterRank f) l (filterShown f) x
 
   filter-bare : FilterText (filterShown f) f
-  filter-bare = eased (FilterAt f) (looser-filter f) 0 (filterRank f) (omega arith) (filterShown f) x
+  filter-bare = eased (FilterAt f) (eased-filter f) 0 (filterRank f) (omega arith) (filterShown f) x
 
 -- what is shown is a text of its rank
 mutual
@@ -148,10 +179,10 @@ shown-fewest p h =
       fewest = λ other x. no-fewer (path-best x);
     }
 
--- and just one.
-pub fewest-shown : {p : Path} {s : Bytes} → PathLabels p → Fewest p s → s ≡ pathShown p
-fewest-shown {p} {s} h x = go (path-best (x .of))
+-- and every path has at most one.
+pub fewest-shown : {p : Path} {s : Bytes} → Fewest p s → s ≡ pathShown p
+fewest-shown {p} {s} x = go (path-best (x .of))
   where
     go : Best s (pathShown p) → s ≡ pathShown p
     go (inl e) = e
-    go (inr l) = let k = x .fewest (pathShown p) (shown-fewest p h .of) in absurd (omega arith)
+    go (inr l) = let k = x .fewest (pathShown p) (shown-fewest p (text-labels (x .of)) .of) in absurd (omega arith)

@@ -9,14 +9,11 @@ use Rattle.reply.specs.Bytes.{Bytes}
 use Rattle.reply.specs.Outcome.{first, behind}
 use Rattle.reply.proofs.Unique.{OneFault, Wrong, in-turn-one, outcome-one, written-one}
 use Rattle.query.specs.Syntax.{Path}
-use Rattle.query.specs.Table.{entries, queryOf}
 use Rattle.query.specs.Fault.{curators}
 use Rattle.query.proofs.Unique.{query-wrong, query-one}
-use Rattle.text.specs.Print.{Fewest, TooLong, too-long, Printable, PrintFault, TextGiven, TablePrinted}
-use Rattle.shortest.proofs.Shown.{pathShown}
+use Rattle.text.specs.Print.{TooLong, too-long, Printable, PrintFault, TextGiven, TablePrinted}
 use Rattle.shortest.proofs.Texts.{fewest-shown}
 use Rattle.shortest.proofs.Length.{fewest-shortest}
-use Rattle.shortest.proofs.Queries.{query-limited}
 
 -- "18 exactly when that text would be longer": one number and place
 too-long-one : {p : Path} → OneFault (TooLong p)
@@ -35,10 +32,6 @@ module _ (table : Bytes) where
   unfolding PrintFault
   print-one = in-turn-one (query-wrong curators table) (query-one curators table) too-long-one
 
-  -- what is printed of a query is what is shown for its path
-  pub printed-shown : {text : Bytes} → Printable table → Fewest (queryOf (entries table)) text → text ≡ pathShown (queryOf (entries table))
-  printed-shown given x = fewest-shown (query-limited (given .query) .labels) x
-
   -- printing says one thing, and leaves one room
   pub printed-one : (before : Bytes) {x y : Bytes} {s u : Said} → TablePrinted table before s x → TablePrinted table before u y
       → (s ≡ u) × (x ≡ y)
@@ -47,5 +40,5 @@ module _ (table : Bytes) where
     where
       same : Printable table → (c d : ℕ) (x y : Bytes) → TextGiven table before c x → TextGiven table before d y → (c ≡ d) × (x ≡ y)
       same right c d x y g h =
-          let texts : g .text ≡ h .text = printed-shown right (g .printed) ∙ sym (printed-shown right (h .printed)) in
+          let texts : g .text ≡ h .text = fewest-shown (g .printed) ∙ sym (fewest-shown (h .printed)) in
           (g .count ∙ ap length texts ∙ sym (h .count), written-one (g .written) (h .written) texts)

@@ -18,10 +18,10 @@ checked : (c : tie.After-checked) → let s = c .before .before .before .before 
 checked c = right-counted (c .checked .given .1) (c .before .before .check-query .ensures)
 
 -- Its text is held, and fits.
-held : (c : tie.Else2) → let shown = c .before in
+fitting : (c : tie.Else2) → let shown = c .before in
     let (query, count) = checked (shown .before .before .before) in
     Fits query (rw count at (shown .hold .ensures))
-held c =
+fitting c =
     let shown = c .before in
     let (query, count) = checked (shown .before .before .before) in
     fits query (rw count at (shown .hold .ensures)) (c .if2 .left)
@@ -64,14 +64,14 @@ returns-3 c =
     not-printed query (rw count at (shown .hold .ensures)) _ (c .before .if2 .taken) (search needs) (c .refuse2 .ensures)
 
 array-share-prefix-text : tie.Need-array-share-prefix-text
-array-share-prefix-text c = held c .inside
+array-share-prefix-text c = fitting c .inside
 
 slice-aggregate-copy : tie.Need-slice-aggregate-copy
-slice-aggregate-copy c = sym (length-take-le _ _ (held (c .before) .inside))
+slice-aggregate-copy c = sym (length-take-le _ _ (fitting (c .before) .inside))
 
 copy-requires : tie.Need-copy-requires
 copy-requires c κs =
-    let fit = held (c .before .before) in
+    let fit = fitting (c .before .before) in
     rw (length-take-le _ _ (fit .inside)) (search needs)
 
 same-length : tie.Need-same-length
@@ -83,7 +83,7 @@ returns-4 c =
     let fitted = copied .before .before .before in
     let shown = fitted .before in
     let (query, count) = checked (shown .before .before .before) in
-    let fit = held fitted in
+    let fit = fitting fitted in
     printed query (rw count at (shown .hold .ensures)) _ _ (fitted .if2 .left) fit (search needs)
     (front-copied _ _ _ (fit .inside) (copied .copy .ensures .1))
 
