@@ -130,9 +130,11 @@ mutual
   path-below previous h = plain (refl, refl)
   path-below (stay f) h = enclosed-below 91 93 (refl, refl) (refl, refl) (filter-below f h)
   path-below (then p q) h =
-      joined-below 47 (refl, refl) (path-held-below 1 p (omega arith) (path-below p (h .0))) (path-held-below 2 q (omega arith) (path-below q (h .1)))
+      joined-below 47 (refl, refl) (path-held-below 1 p (omega arith) (path-below p (h .0)))
+      (path-held-below 2 q (omega arith) (path-below q (h .1)))
   path-below (either p q) h =
-      joined-below 124 (refl, refl) (below-more (omega arith) (path-below p (h .0))) (path-held-below 1 q (omega arith) (path-below q (h .1)))
+      joined-below 124 (refl, refl) (below-more (omega arith) (path-below p (h .0)))
+      (path-held-below 1 q (omega arith) (path-below q (h .1)))
   path-below (star p) h = both (path-held-below 2 p (omega arith) (path-below p h)) (below-more (omega arith) (plain (refl, refl)))
 
   filter-below : (f : Filter) → FilterLabels f → Below (filterHeight f) (filterShown f)
@@ -142,9 +144,11 @@ mutual
   filter-below never h = plain (refl, refl)
   filter-below (not f) h = both (below-more (omega arith) (plain (refl, refl))) (filter-held-below 2 f (omega arith) (filter-below f h))
   filter-below (and f g) h =
-      joined-below 38 (refl, refl) (filter-held-below 1 f (omega arith) (filter-below f (h .0))) (filter-held-below 2 g (omega arith) (filter-below g (h .1)))
+      joined-below 38 (refl, refl) (filter-held-below 1 f (omega arith) (filter-below f (h .0)))
+      (filter-held-below 2 g (omega arith) (filter-below g (h .1)))
   filter-below (or f g) h =
-      joined-below 43 (refl, refl) (below-more (omega arith) (filter-below f (h .0))) (filter-held-below 1 g (omega arith) (filter-below g (h .1)))
+      joined-below 43 (refl, refl) (below-more (omega arith) (filter-below f (h .0)))
+      (filter-held-below 1 g (omega arith) (filter-below g (h .1)))
 
 -- "a bracket is opened while 32 are open": nowhere in what is shown for a path that is at most 32 high.
 pub shown-shallow : (p : Path) → PathLabels p → pathHeight p ≤ 32 → (k : ℕ) → ¬ OneTooMany (pathShown p) k

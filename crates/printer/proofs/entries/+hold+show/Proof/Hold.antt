@@ -45,28 +45,10 @@ module _ (t : ℕ) where
   returns : lts.Need-returns (claims t) (own t) hold.Post
   returns c = let full : 1024 < c .before .before .args .size = search needs in too-long _ _ (omega arith)
 
-  kind-at-requires : lts.Need-kind-at-requires (claims t) (own t) hold.Post
-  kind-at-requires c κs = search needs
-
-  rank-requires : lts.Need-rank-requires (claims t) (own t) hold.Post
-  rank-requires c κs = search needs
-
-  opening-requires : lts.Need-opening-requires (claims t) (own t) hold.Post
-  opening-requires c κs = search needs
-
-  put-requires : lts.Need-put-requires (claims t) (own t) hold.Post
-  put-requires c κs = search needs
-
   show-requires : lts.Need-show-requires (claims t) (own t) hold.Post
   show-requires c κs =
       let start = c .before .before .before .before .before .before in
       (omega (arith, start .pre .0), start .pre .1)
-
-  closing-requires : lts.Need-closing-requires (claims t) (own t) hold.Post
-  closing-requires c κs = search needs
-
-  put-requires-2 : lts.Need-put-requires-2 (claims t) (own t) hold.Post
-  put-requires-2 c κs = search needs
 
   returns-2 : lts.Need-returns-2 (claims t) (own t) hold.Post
   returns-2 c =
@@ -101,5 +83,5 @@ module _ (t : ℕ) where
       (joined .if2 .came))
 
   pub meets : {M : Type 1} → lts.Closed (claims t) (own t) hold.Post M
-  meets = lts.spec (claims t) (own t) hold.Post returns kind-at-requires rank-requires opening-requires put-requires show-requires
-      closing-requires put-requires-2 returns-2 returns-3
+  meets = lts.spec (claims t) (own t) hold.Post returns (λ c κs. search needs) (λ c κs. search needs) (λ c κs. search needs)
+      (λ c κs. search needs) show-requires (λ c κs. search needs) (λ c κs. search needs) returns-2 returns-3

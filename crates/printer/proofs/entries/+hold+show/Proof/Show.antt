@@ -78,23 +78,8 @@ module _ (t : ℕ) where
   tight : (c : lts.Else1 (claims t) (own t) show.Post) → 2 ≤ getD ranks (entry (c .before) .kind) 0
   tight c = rw (← ranked (c .before)) (search needs)
 
-  entry-at-requires : lts.Need-entry-at-requires (claims t) (own t) show.Post
-  entry-at-requires c κs = search needs
-
-  rank-requires : lts.Need-rank-requires (claims t) (own t) show.Post
-  rank-requires c κs = search needs
-
   hold-requires : lts.Need-hold-requires (claims t) (own t) show.Post
   hold-requires c κs = let k = c .before .before in ask k (fields k .left) (joined-shown (has k) (loose (c .before)) .0)
-
-  symbol-requires : lts.Need-symbol-requires (claims t) (own t) show.Post
-  symbol-requires c κs = search needs
-
-  put-requires : lts.Need-put-requires (claims t) (own t) show.Post
-  put-requires c κs = search needs
-
-  add-hold : lts.Need-add-hold (claims t) (own t) show.Post
-  add-hold c = search needs
 
   hold-requires-2 : lts.Need-hold-requires-2 (claims t) (own t) show.Post
   hold-requires-2 c κs =
@@ -118,33 +103,15 @@ module _ (t : ℕ) where
       )
       (and-then (first .hold .ensures) (and-then (put .put .ensures) (c .hold2 .ensures)))
 
-  put-requires-2 : lts.Need-put-requires-2 (claims t) (own t) show.Post
-  put-requires-2 c κs = search needs
-
   hold-requires-3 : lts.Need-hold-requires-3 (claims t) (own t) show.Post
   hold-requires-3 c κs =
       let k = c .before .before .before .before .before in
       ask k (fields k .left) (stay-shown (has k) (of-kind k (c .before .before .before .match .keys1)) .0)
 
-  put-requires-3 : lts.Need-put-requires-3 (claims t) (own t) show.Post
-  put-requires-3 c κs = search needs
-
   hold-requires-4 : lts.Need-hold-requires-4 (claims t) (own t) show.Post
   hold-requires-4 c κs =
       let k = c .before .before .before in
       ask k (fields k .left) (star-shown (has k) (of-kind k (c .before .match .keys2)) .0)
-
-  symbol-requires-2 : lts.Need-symbol-requires-2 (claims t) (own t) show.Post
-  symbol-requires-2 c κs = search needs
-
-  put-requires-4 : lts.Need-put-requires-4 (claims t) (own t) show.Post
-  put-requires-4 c κs = search needs
-
-  symbol-requires-3 : lts.Need-symbol-requires-3 (claims t) (own t) show.Post
-  symbol-requires-3 c κs = search needs
-
-  put-requires-5 : lts.Need-put-requires-5 (claims t) (own t) show.Post
-  put-requires-5 c κs = search needs
 
   put-label-requires : lts.Need-put-label-requires (claims t) (own t) show.Post
   put-label-requires c κs =
@@ -156,22 +123,10 @@ module _ (t : ℕ) where
       let k = c .before .before .before in
       ask k (fields k .left) (leads-shown (has k) (of-kind k (c .before .match .keys4)) .0)
 
-  symbol-requires-4 : lts.Need-symbol-requires-4 (claims t) (own t) show.Post
-  symbol-requires-4 c κs = search needs
-
-  put-requires-6 : lts.Need-put-requires-6 (claims t) (own t) show.Post
-  put-requires-6 c κs = search needs
-
   hold-requires-6 : lts.Need-hold-requires-6 (claims t) (own t) show.Post
   hold-requires-6 c κs =
       let k = c .before .before .before .before .before .before in
       ask k (fields k .left) (not-shown (has k) (of-kind k (c .before .before .before .before .match .keys5)) .0)
-
-  symbol-requires-5 : lts.Need-symbol-requires-5 (claims t) (own t) show.Post
-  symbol-requires-5 c κs = search needs
-
-  put-requires-7 : lts.Need-put-requires-7 (claims t) (own t) show.Post
-  put-requires-7 c κs = search needs
 
   returns-2 : lts.Need-returns-2 (claims t) (own t) show.Post
   returns-2 c =
@@ -230,7 +185,8 @@ module _ (t : ℕ) where
       (c .put7 .ensures)
 
   pub meets : {M : Type 1} → lts.Closed (claims t) (own t) show.Post M
-  meets = lts.spec (claims t) (own t) show.Post entry-at-requires rank-requires hold-requires symbol-requires put-requires add-hold
-      hold-requires-2 returns put-requires-2 hold-requires-3 put-requires-3 hold-requires-4 symbol-requires-2 put-requires-4
-      symbol-requires-3 put-requires-5 put-label-requires hold-requires-5 symbol-requires-4 put-requires-6 hold-requires-6
-      symbol-requires-5 put-requires-7 returns-2 returns-3 returns-4 returns-5 returns-6 returns-7
+  meets = lts.spec (claims t) (own t) show.Post (λ c κs. search needs) (λ c κs. search needs) hold-requires (λ c κs. search needs)
+      (λ c κs. search needs) (λ c. search needs) hold-requires-2 returns (λ c κs. search needs) hold-requires-3 (λ c κs. search needs)
+      hold-requires-4 (λ c κs. search needs) (λ c κs. search needs) (λ c κs. search needs) (λ c κs. search needs) put-label-requires
+      hold-requires-5 (λ c κs. search needs) (λ c κs. search needs) hold-requires-6 (λ c κs. search needs) (λ c κs. search needs)
+      returns-2 returns-3 returns-4 returns-5 returns-6 returns-7
