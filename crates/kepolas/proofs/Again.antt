@@ -16,11 +16,16 @@ use Rattle.curator.specs.Promise.{CuratorAnswered}
 use Rattle.curator.proofs.SamePath.{same-path-curator}
 
 module _ (table room text room′ table′ : Bytes) (c n : ℕ) (printed : TablePrinted table room (count c) text)
-    (read : TextRead (take c text) room′ (count n) table′) (large : 1536 ≤ length room′) where
+    (read : TextRead (take c text) room′ (count n) table′) where
   -- what is printed is a query
   given : Query curators table
   unfolding TablePrinted
   given = elim printed [ done enough right work ↦ right .query ]
+
+  -- and what is read has its room
+  large : 1536 ≤ length room′
+  unfolding TextRead
+  large = elim read [ done enough right work ↦ enough ]
 
   -- call 3
   pub again-answers : (roll before : Bytes) {s u : Said} {x y : Bytes} → Answered roll table before s x
