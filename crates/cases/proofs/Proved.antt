@@ -1,12 +1,13 @@
 -- The worked cases hold: the list is computed, and what it says follows by the laws that the computed functions agree with the definitions
 -- and that the calls' promises leave one way. Assumes nothing.
 use Prim.Native.Nat.{ℕ, suc, _-_}
+use native.Mathlib.Omega.{arith}
 use mathlib.Core.Path.{_≡_, sym, subst, subst₂}
 use mathlib.Core.Logic.{_↔_, Iff·symm, Iff·trans, ⊎-elim}
-use mathlib.Core.Bool.{Bool, false, _&&_}
+use mathlib.Core.Bool.{Bool, true, false, cond, _&&_}
 use mathlib.Core.List.{List, [], _∷_, map, List·Memᴰ, List·Memᴰ·not-nil, List·Memᴰ·cases-cons}
 use lib.Dec.{T, eqb, leb, eqb→eq, leb→le}
-use lib.ListN.{length}
+use lib.ListN.{length, getD}
 use lib.Count as count
 use mir.Facts.{and-yes}
 use Rattle.reply.specs.Reply.{Said}
@@ -18,11 +19,12 @@ use Rattle.query.specs.Syntax.{Path}
 use Rattle.query.specs.Table.{entries, height, heightAt, operandHeight}
 use Rattle.query.proofs.Answers.{members, members-right, answer, answer-right}
 use Rattle.text.specs.Written.{pathEntries, tableOf}
-use Rattle.text.specs.Promise.{TextLength, Fits, TextFault}
+use Rattle.text.specs.Promise.{TextLength, StarBehindStar, behind, Fits, TextFault, mistaken, TextOf}
 use Rattle.derivation.proofs.Rules.{Result, got, stopped, broken, deep, PathReads}
 use Rattle.derivation.proofs.Deciding as reading
 use Rattle.derivation.proofs.Deciding.{Reading, no-steps, readText}
-use Rattle.derivation.proofs.Judged.{Judged, read, not-whole, judged, read-whole}
+use Rattle.derivation.proofs.Judged.{Judged, read, not-whole, judged}
+use Rattle.derivation.proofs.Mistakes.{star-within, breaks-first, deep-first, whole-faultless}
 use Rattle.answer.specs.Bitmap.{}
 use Rattle.sets.specs.Bits.{ones}
 use Rattle.view.specs.Annotation.{records}
@@ -66,20 +68,31 @@ unfolding onResult
 on-result test no-steps h = absurd h
 on-result test (reading.read r d) h = (r, d, h)
 
--- a text's length is in order
-lengthTests : Bytes → List Bool
-lengthTests text = leb 1 (length text) ∷ leb (length text) 1024 ∷ []
+-- whether a byte of the text and the next one are not both stars
+apart : Bytes → ℕ → Bool
+apart text k = cond (eqb (getD text k 0) 42 && eqb (getD text (suc k) 0) 42) false true
 
-text-length : (text : Bytes) → T (all (lengthTests text)) → TextLength text
-unfolding lengthTests
+-- a text's length is in order, and no star stands right behind a star
+textTests : Bytes → List Bool
+textTests text = leb 1 (length text) ∷ leb (length text) 1024 ∷ everyBelow (length text) (apart text) ∷ []
+
+text-length : (text : Bytes) → T (all (textTests text)) → TextLength text
+unfolding textTests
 text-length text h =
-    let passed = all-at (lengthTests text) h in
+    let passed = all-at (textTests text) h in
     record { some = leb→le 1 (length text) (passed 0); most = leb→le (length text) 1024 (passed 1) }
+
+text-plain : (text : Bytes) → T (all (textTests text)) → (k : ℕ) → ¬ StarBehindStar text k
+unfolding textTests apart
+text-plain text h k (behind {i = i} e f) =
+    let each = every-below (length text) (apart text) (all-at (textTests text) h 2) in
+    let next = star-within {text = text} (behind {i = i} e f) in
+    rw (e, f) at (each i (omega arith))
 
 -- the text's length and the path's table are within the limits, and the path's answer is listed, each node once
 answerTests : Tree → Bytes → List ℕ → Path → List Bool
 answerTests t text ks p =
-    all (lengthTests text)
+    all (textTests text)
     ∷ leb (length (tableOf p)) 256
     ∷ everyBelow (length (tableOf p)) (λ i. leb (heightAt (tableOf p) i) 32)
     ∷ sameNumbers (answer t p) ks
@@ -88,7 +101,7 @@ answerTests t text ks p =
 
 -- whether a text that reads so has this answer
 answersBy : Tree → Bytes → List ℕ → Result Path → Bool
-unfolding answerTests lengthTests answer members tableOf pathEntries heightAt height operandHeight sameList bitmapOf ones count.ones
+unfolding answerTests textTests apart answer members tableOf pathEntries heightAt height operandHeight sameList bitmapOf ones count.ones
 answersBy t text ks (got p []) = all (answerTests t text ks p)
 answersBy t text ks (got p (c ∷ more)) = false
 answersBy t text ks (stopped s more) = false
@@ -116,7 +129,13 @@ computes (visible shown) = sameNumbers (members 0 flags) shown
 computes (the-view v) = sameList sameNode computed v
 computes (curator text ks) = onResult (answersBy computed text ks) (readText 32 text)
 computes (on-roll text ks) = onResult (answersBy (nodes roll) text ks) (readText 32 text)
-computes (refused text n i) = all (lengthTests text) && onResult (refusedBy text n i) (readText 32 text)
+computes (refused text n i) = all (textTests text) && onResult (refusedBy text n i) (readText 32 text)
+
+-- a text that is read whole is one of its path, if its table fits
+whole-text : {text : Bytes} {p : Path} → TextLength text → ((k : ℕ) → ¬ StarBehindStar text k) → Judged text (got p []) → Fits (tableOf p)
+    → TextOf p text
+whole-text right plain (read x shallow) fits =
+    record { length = right; path = x; faultless = whole-faultless x shallow (λ k l. plain k); fits = fits }
 
 -- the answer on a tree is what is listed
 listed : {On : Tree → Type 0} {Call : Bytes → Bytes → Said → Bytes → Type 0} {t : Tree} → Asked On Call t
@@ -129,19 +148,20 @@ listed {t = t} asked text ks (got p []) d h =
     let fits : Fits (tableOf p) =
     record { few = leb→le (length (tableOf p)) 256 (passed 1); low = λ i l. leb→le (heightAt (tableOf p) i) 32 (low i l) } in
     let same : answer t p ≡ ks = same-numbers (answer t p) ks (passed 3) in
-    answers ks asked (read-whole length-right (judged length-right d) fits)
+    answers ks asked (whole-text length-right (text-plain text (passed 0)) (judged d) fits)
     (λ k. rw (← same) (Iff·symm (answer-right t (asked .order) p (asked .root) k)))
     (eqb→eq (length ks) (ones (bitmapOf ks)) (passed 4))
 listed asked text ks (got p (c ∷ more)) d h = absurd h
 listed asked text ks (stopped s more) d h = absurd h
 
 -- a text that reads so is refused so
-refusal : (text : Bytes) (n i : ℕ) {r : Result Path} → Judged text r → T (refusedBy text n i r) → TextFault text n i
+refusal : (text : Bytes) (n i : ℕ) {r : Result Path} → TextLength text → ((k : ℕ) → ¬ StarBehindStar text k) → Judged text r
+    → T (refusedBy text n i r) → TextFault text n i
 unfolding refusedBy
-refusal text n i (read x s) h = absurd h
-refusal text n i (not-whole f) h = is-fault text n i _ _ h f
-refusal text n i (Judged.broken f) h = is-fault text n i _ _ h f
-refusal text n i (Judged.deep f) h = is-fault text n i _ _ h f
+refusal text n i right plain (read x s) h = absurd h
+refusal text n i right plain (not-whole f) h = is-fault text n i _ _ h (mistaken right (breaks-first f (λ k l. plain k)))
+refusal text n i right plain (Judged.broken f) h = is-fault text n i _ _ h (mistaken right (breaks-first f (λ k l. plain k)))
+refusal text n i right plain (Judged.deep f) h = is-fault text n i _ _ h (mistaken right (deep-first f (λ k l. plain k)))
 
 -- what is computed of a case is what it says
 computes-right : (c : Case) → T (computes c) → Holds c
@@ -164,9 +184,9 @@ computes-right (curator text ks) h =
 computes-right (on-roll text ks) h =
     let (r, d, k) = on-result (answersBy (nodes roll) text ks) (readText 32 text) h in listed of-roll text ks r d k
 computes-right (refused text n i) h =
-    let (size, reads) = and-yes (all (lengthTests text)) (onResult (refusedBy text n i) (readText 32 text)) h in
+    let (size, reads) = and-yes (all (textTests text)) (onResult (refusedBy text n i) (readText 32 text)) h in
     let (r, d, k) = on-result (refusedBy text n i) (readText 32 text) reads in
-    let fault = refusal text n i (judged (text-length text size) d) k in
+    let fault = refusal text n i (text-length text size) (text-plain text size) (judged d) k in
     record { fault = fault; read = text-refused fault }
 
 -- every case computes

@@ -1,4 +1,4 @@
--- What the rules of reading come to, in the words of call 2's promise. Assumes nothing.
+-- What the rules of reading come to, in the words of call 2's promise: they judge by the grammar and by the brackets. Assumes nothing.
 use Prim.Native.Nat.{ℕ, suc, _+_, _-_, _≤_, _<_}
 use native.Mathlib.Omega.{arith}
 use mathlib.Core.Path.{_≡_, refl, sym, ap, _∙_}
@@ -10,9 +10,7 @@ use lib.Seq.{append-snoc, take-append-le, take-at, getD-at}
 use Rattle.reply.specs.Bytes.{Bytes}
 use Rattle.query.specs.Syntax.{Path}
 use Rattle.text.specs.Grammar.{PathText}
-use Rattle.text.specs.Written.{tableOf}
-use Rattle.text.specs.Promise.{TextLength, Begins, Breaks, opening, closing, howMany, OneTooMany, Fits, TextFault, too-deep, TextOf}
-use Rattle.text.specs.Promise as promise
+use Rattle.text.specs.Promise.{Begins, Breaks, opening, closing, howMany, OneTooMany}
 use Rattle.derivation.proofs.Rules.{Result, got, stopped, PathReads}
 use Rattle.derivation.proofs.Rules as rules
 use Rattle.derivation.proofs.Sound.{Span, bracket, Heard, whole, begun, heard}
@@ -21,12 +19,23 @@ use Rattle.derivation.proofs.Led.{Here, Led, led, broke, deepened, led-
 use Rattle.derivation.proofs.Depth.{passes}
 use Rattle.derivation.proofs.Place.{begins, breaks}
 
+-- The text breaks at a place, and no bracket before it is one too many.
+pub record BreaksFirst (text : Bytes) (i : ℕ) : Type 0 where
+  pub breaks : Breaks text i
+  pub shallow : (k : ℕ) → k < i → ¬ OneTooMany text k
+
+-- The bracket at a place is the first that is one too many, and the text breaks neither there nor before it.
+pub record DeepFirst (text : Bytes) (i : ℕ) : Type 0 where
+  pub too-many : OneTooMany text i
+  pub shallow : (k : ℕ) → k < i → ¬ OneTooMany text k
+  pub unbroken : (k : ℕ) → k ≤ i → ¬ Breaks text k
+
 -- What is true of a text that is read so.
 pub data Judged (text : Bytes) : Result Path → Type 0 where
   read : {p : Path} → PathText text p → ((k : ℕ) → ¬ OneTooMany text k) → Judged text (got p [])
-  not-whole : {p : Path} {c : ℕ} {more : Bytes} → TextFault text 14 (length text - suc (length more)) → Judged text (got p (c ∷ more))
-  broken : {more : Bytes} → TextFault text 14 (length text - length more) → Judged text (stopped rules.broken more)
-  deep : {more : Bytes} → TextFault text 15 (length text - length more) → Judged text (stopped rules.deep more)
+  not-whole : {p : Path} {c : ℕ} {more : Bytes} → BreaksFirst text (length text - suc (length more)) → Judged text (got p (c ∷ more))
+  broken : {more : Bytes} → BreaksFirst text (length text - length more) → Judged text (stopped rules.broken more)
+  deep : {more : Bytes} → DeepFirst text (length text - length more) → Judged text (stopped rules.deep more)
 
 module _ {text : Bytes} {τ : State} where
   -- no bracket that the machine has passed over is one too many
@@ -67,8 +76,8 @@ module _ {text : Bytes} where
       ⊎-elim (λ h. omega arith) (λ h. h .1 begun) (b .stops)
 
 -- What reading says of a text, by what it comes to.
-pub judged : {text : Bytes} {r : Result Path} → TextLength text → PathReads 32 0 text r → Judged text r
-judged {text} length-right x = go (heard x) (led-chain x top refl)
+pub judged : {text : Bytes} {r : Result Path} → PathReads 32 0 text r → Judged text r
+judged {text} x = go (heard x) (led-chain x top refl)
   where
     got-some : {p : Path} {τ : State} (more : Bytes) → Span PathText text p more → Moves 32 start text τ more
         → Here τ (behind-path top p) more → Judged text (got p more)
@@ -76,15 +85,10 @@ judged {text} length-right x = go (heard x) (led-chain x top refl)
         read {p = p} (rw (v .splits, append-nil) (v .text)) (λ k o. let l : k < length text = o .within in none-before m k (omega arith) o)
     got-some {p} (c ∷ more) v m h =
         let place = breaks {p = p} (v .front) [] m (h .now) (v .splits) (rw append-nil (v .text)) in
-        not-whole (promise.breaks length-right place (none-before m))
+        not-whole (record { breaks = place; shallow = none-before m })
 
     go : {r : Result Path} → Heard PathText text r → Led 32 start text (behind-path top) r → Judged text r
     go (whole v) (led {more = more} m h) = got-some more v m h
-    go (begun u t e w a) (broke m h) = broken (promise.breaks length-right (breaks u t m (h .now) e w) (none-before m))
+    go (begun u t e w a) (broke m h) = broken (record { breaks = breaks u t m (h .now) e w; shallow = none-before m })
     go (begun u t e w (bracket {c = c} {more = more} {t = t′})) (deepened m g o l) =
-        deep (too-deep length-right (one-too-many m o l) (none-before m) (not-broken u c t′ more e w))
-
-module _ {text : Bytes} {p : Path} (length-right : TextLength text) where
-  -- a text that is read whole is one of its path, if its table fits
-  pub read-whole : Judged text (got p []) → Fits (tableOf p) → TextOf p text
-  read-whole (read x shallow) fits = record { length = length-right; path = x; shallow = shallow; fits = fits }
+        deep (record { too-many = one-too-many m o l; shallow = none-before m; unbroken = not-broken u c t′ more e w })

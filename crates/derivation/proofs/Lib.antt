@@ -10,6 +10,7 @@ pub mod Led
 pub mod Depth
 pub mod Place
 pub mod Judged
+pub mod Mistakes
 pub mod Unique
 pub mod Back
 pub mod Ordered

@@ -7,7 +7,7 @@ use mathlib.Core.List.{_++_}
 use lib.ListN.{length, take, length-append}
 use lib.Seq.{length-take-le, take-all}
 use Rattle.reply.specs.Bytes.{Bytes}
-use Rattle.text.specs.Promise.{bad-length, breaks, too-deep, too-large}
+use Rattle.text.specs.Promise.{bad-length, mistaken, too-large}
 use Rattle.draw.specs.Drawn.{LineFor, text-refused, answered}
 
 module _ {roll annotation filters : Bytes} where
@@ -15,8 +15,7 @@ module _ {roll annotation filters : Bytes} where
   too-long-alike : (long : Bytes) {text line : Bytes} → 1024 < length long → 1024 < length text
       → LineFor roll annotation filters text line → LineFor roll annotation filters long line
   too-long-alike long l h (text-refused (bad-length f)) = text-refused (bad-length (λ t. let m = t .most in omega arith))
-  too-long-alike long l h (text-refused (breaks t b s)) = absurd (omega (arith, t .most))
-  too-long-alike long l h (text-refused (too-deep t o s b)) = absurd (omega (arith, t .most))
+  too-long-alike long l h (text-refused (mistaken t x)) = absurd (omega (arith, t .most))
   too-long-alike long l h (text-refused (too-large t x s f)) = absurd (omega (arith, t .most))
   too-long-alike long l h (answered s map t x) = absurd (omega (arith, t .length .most))
 

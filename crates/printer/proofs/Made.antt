@@ -118,11 +118,11 @@ module _ {table : Bytes} {e : ℕ} (has : HasEntry table e) where
       let (f, same) = standing.stay-stands es e (has .within) own refl right is in
       around path filter 0 (λ x. code "[" ∷ x ++ code "]" ∷ []) (of-sort 6 refl is) f (rw (same, unbracketed) refl)
 
-  pub star-shown : own .kind ≡ 9 → (own .left < e) × (entryShown es e ≡ entryHeld 2 es (own .left) ++ code "*" ∷ [])
+  pub star-shown : own .kind ≡ 9 → (own .left < e) × (entryShown es e ≡ entryHeld 3 es (own .left) ++ code "*" ∷ [])
   unfolding kinds find pathShown
   star-shown is =
       let (f, same) = standing.star-stands es e (has .within) own refl right is in
-      around path path 2 (λ x. x ++ code "*" ∷ []) (of-sort 9 refl is) f (ap pathShown same)
+      around path path 3 (λ x. x ++ code "*" ∷ []) (of-sort 9 refl is) f (ap pathShown same)
 
   pub leads-shown : own .kind ≡ 17 → (own .left < e) × (entryShown es e ≡ entryHeld 0 es (own .left))
   unfolding kinds find filterShown pathHeld

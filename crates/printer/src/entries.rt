@@ -38,7 +38,7 @@ fn show(table: &[u8], e: usize, out: &mut [u8; TEXT_BYTES], size: usize) -> usiz
             put(out, inside, b']')
         }
         STAR => {
-            let item = hold(table, left, 2, out, size);
+            let item = hold(table, left, 3, out, size);
             put(out, item, symbol(kind))
         }
         LABELLED => {

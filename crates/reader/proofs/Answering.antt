@@ -21,12 +21,15 @@ use Rattle.query.proofs.Unique.{query-wrong}
 use Rattle.tables.specs.Promise.{QueryChecked}
 use Rattle.text.specs.Grammar.{PathText}
 use Rattle.text.specs.Written.{tableOf}
-use Rattle.text.specs.Promise.{TextLength, OneTooMany, TextFault, too-large, TextOf, TextRead}
+use Rattle.text.specs.Promise.{TextLength, OneTooMany, Faultless, TextFault, mistaken, too-large, TextOf, TextRead}
 use Rattle.derivation.proofs.Back.{table-back}
+use Rattle.derivation.proofs.Mistakes.{PlainBelow, breaks-first, deep-first, star-first, whole-faultless}
 use Rattle.derivation.proofs.Accepted.{fits-query, query-fits}
 use Rattle.tokens.specs.declared.answer.Parsed.{Parsed}
 use Rattle.tokens.specs.declared.answer.Parsed.the-variants.{Got, Broken, Deep}
-use Rattle.reader.specs.Reader.{Parses, parses, breaks-off, too-many-open, WrittenOut}
+use Rattle.tokens.specs.Reading.{placeOf}
+use Rattle.reader.specs.Reader.{Parses, parses, breaks-off, too-many-open, FirstSlip, WrittenOut}
+use Rattle.reader.proofs.Parsing.{reached-clear}
 
 -- The table is checked: by what the check replies, it is written out or refused.
 module _ {table : Bytes} (before : Bytes) where
@@ -62,6 +65,7 @@ module _ {text : Bytes} {p : Parsed} {at n : ℕ} {table : Bytes} (e : p ≡ Got
     pub path : Path
     pub text-of : PathText text path
     pub shallow : (k : ℕ) → ¬ OneTooMany text k
+    pub end : at ≡ length text
     pub count : n ≡ length (tableOf path)
     pub long : 6 * n ≤ length table
     pub few : n ≤ 2048
@@ -72,7 +76,8 @@ module _ {text : Bytes} {p : Parsed} {at n : ℕ} {table : Bytes} (e : p ≡ Got
   got-read = go (rw e at x)
     where
       go : Parses text (Got at n) table → Read
-      go (parses {p = path} y s c l m f) = record { path = path; text-of = y; shallow = s; count = c; long = l; few = m; front = f }
+      go (parses {p = path} y s e c l m f) =
+          record { path = path; text-of = y; shallow = s; end = e; count = c; long = l; few = m; front = f }
 
 module _ (text before : Bytes) where
   -- too little room
@@ -86,30 +91,39 @@ module _ (text before : Bytes) where
     unfolding TextRead
     fault-told f e = rw e (turned-away room f)
 
-    -- a byte that the grammar does not take
-    pub broken-told : {p : Parsed} {i : ℕ} {after : Bytes} {s : Said} → p ≡ Broken i → Parses text p after → s ≡ refused 14 i
-        → TextRead text before s before
-    broken-told {i = i} {after = after} e x = fault-told (go (rw e at x))
-      where
-        go : Parses text (Broken i) after → TextFault text 14 i
-        go (breaks-off f) = f
+    module _ (right : TextLength text) where
+      -- a star right behind a star, before the place where reading comes to
+      pub slip-told : {p : Parsed} {i : ℕ} {after : Bytes} {s : Said} → Parses text p after → FirstSlip text (placeOf p) i → i < placeOf p
+          → s ≡ refused 19 i → TextRead text before s before
+      slip-told x slip l = fault-told (mistaken right (star-first (reached-clear x .0) l (slip .is l) (slip .none)))
 
-    -- a bracket too many
-    pub deep-told : {p : Parsed} {i : ℕ} {after : Bytes} {s : Said} → p ≡ Deep i → Parses text p after → s ≡ refused 15 i
-        → TextRead text before s before
-    deep-told {i = i} {after = after} e x = fault-told (go (rw e at x))
-      where
-        go : Parses text (Deep i) after → TextFault text 15 i
-        go (too-many-open f) = f
+      -- a byte that the grammar does not take
+      pub broken-told : {p : Parsed} {i : ℕ} {after : Bytes} {s : Said} → p ≡ Broken i → Parses text p after → PlainBelow text (placeOf p)
+          → s ≡ refused 14 i → TextRead text before s before
+      broken-told {i = i} {after = after} e x plain = fault-told (go (rw e at x) (rw e at plain))
+        where
+          go : Parses text (Broken i) after → PlainBelow text i → TextFault text 14 i
+          go (breaks-off w b) plain = mistaken right (breaks-first b plain)
+
+      -- a bracket too many
+      pub deep-told : {p : Parsed} {i : ℕ} {after : Bytes} {s : Said} → p ≡ Deep i → Parses text p after → PlainBelow text (placeOf p)
+          → s ≡ refused 15 i → TextRead text before s before
+      deep-told {i = i} {after = after} e x plain = fault-told (go (rw e at x) (rw e at plain))
+        where
+          go : Parses text (Deep i) after → PlainBelow text i → TextFault text 15 i
+          go (too-many-open w d) plain = mistaken right (deep-first d plain)
 
     -- the text is read, or its table is too large
     pub text-told : {p : Parsed} {at n : ℕ} {table after : Bytes} {s : Said} → TextLength text → p ≡ Got at n → Parses text p table
-        → WrittenOut (take (6 * n) table) before s after → TextRead text before s after
+        → PlainBelow text (placeOf p) → WrittenOut (take (6 * n) table) before s after → TextRead text before s after
     unfolding TextRead
-    text-told {n = n} {after = after} {s = s} right e x a = go (rw (found .front) at a)
+    text-told {at = at} {n = n} {after = after} {s = s} right e x plain a = go (rw (found .front) at a)
       where
         found : Read e x
         found = got-read e x
+
+        faultless : Faultless text
+        faultless = whole-faultless (found .text-of) (found .shallow) (rw (e, found .end) at plain)
 
         short-table : length (tableOf (found .path)) ≤ 65536
         short-table = omega (arith, found .few, found .count)
@@ -120,7 +134,7 @@ module _ (text before : Bytes) where
             record {
               length = right;
               path = found .text-of;
-              shallow = found .shallow;
+              faultless = faultless;
               fits = query-fits (found .text-of) short-table query;
             } in
             let count = made .0 ∙ ap length (table-back (found .path) short-table) in
@@ -128,5 +142,5 @@ module _ (text before : Bytes) where
         go (short less) = absurd (omega arith)
         go (turned-away z fault) =
             let large : TextFault text 16 0 =
-            too-large right (found .text-of) (found .shallow) (λ fits. fault .2 (fits-query (found .text-of) fits)) in
+            too-large right (found .text-of) faultless (λ fits. fault .2 (fits-query (found .text-of) fits)) in
             turned-away room (subst₂ (TextFault text) (sym (fault .0)) (sym (fault .1)) large)

@@ -1,2 +1,3 @@
+pub mod Slips
 pub mod Parsing
 pub mod Answering

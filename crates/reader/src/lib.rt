@@ -1,5 +1,7 @@
 // Call 2: a query text is read into a table of entries. The text is parsed into a local table, and the lent room is written only once
 // everything is accepted.
+mod stars;
+
 use parser::path;
 use reply::CURATOR_ENTRIES;
 use reply::CURATOR_HEIGHT;
@@ -8,12 +10,15 @@ use reply::Reply;
 use reply::TABLE_ROOM;
 use reply::TEXT_BYTES;
 use reply::refuse;
+use stars::slip_before;
 use tables::check_query;
 use tokens::Parsed;
 ghost use Prim.Native.Nat.{_*_, _≤_};
+ghost use mathlib.Core.Path.{_≡_};
 ghost use lib.ListN.{length};
 ghost use Rattle.reply.specs.Reply.{said};
 ghost use Rattle.text.specs.Promise.{TextLength, TextRead};
+ghost use Rattle.tokens.specs.Reading.{placeOf};
 ghost use Rattle.reader.specs.Reader.{Parses, WrittenOut};
 
 // Two entries of six bytes for each byte of a text: no text writes more.
@@ -52,12 +57,29 @@ fn write_out(table: &[u8], room: &mut [u8]) -> Reply
     Reply::Count(count)
 }
 
-// Reads a text of which the length is right by way of a table that has room for it.
+// Where reading comes to: the end of the text, or the place where it stops.
+fn reached(parsed: Parsed) -> usize
+    ensures { λ r. ⌜ r ≡ placeOf parsed ⌝ }
+{
+    match parsed {
+        Parsed::Got { at, count: _ } => at,
+        Parsed::Broken(at) => at,
+        Parsed::Deep(at) => at,
+    }
+}
+
+// Reads a text of which the length is right by way of a table that has room for it. By the grammar any number of stars may stand in a row;
+// the first star right behind a star is refused, where reading comes so far.
 fn read_by(text: &[u8], table: &mut [u8], room: &mut [u8]) -> Reply
     requires { ⌜ TextLength (now text) × (12 * length (now text) ≤ length (now table)) × (1536 ≤ length (now room)) ⌝ }
     ensures { λ r. ⌜ TextRead (now (text .entry)) (now (room .entry)) (said r) (now (room .exit)) ⌝ }
 {
     let parsed = read_whole(text, table);
+    let end = reached(parsed);
+    let slip = slip_before(text, end);
+    if slip < end {
+        return refuse(Reason::TwoStars, slip);
+    }
     match parsed {
         Parsed::Broken(at) => refuse(Reason::NotInGrammar, at),
         Parsed::Deep(at) => refuse(Reason::TooManyOpen, at),

@@ -43,6 +43,7 @@ pub enum Reason {
     TableTooLarge,
     FileUnreadable,
     TextTooLong,
+    TwoStars,
 }
 
 pub struct Refusal {
@@ -85,6 +86,7 @@ pub fn number_of(reason: Reason) -> u64
         Reason::TableTooLarge => 16,
         Reason::FileUnreadable => 17,
         Reason::TextTooLong => 18,
+        Reason::TwoStars => 19,
     }
 }
 

@@ -1,4 +1,5 @@
--- Of the texts of a path none has fewer brackets than the one that is shown, and one with as few is that one. Assumes nothing.
+-- Of the texts of a path in which no star stands right behind a star none has fewer brackets than the one that is shown, and one with as few
+-- is that one. Assumes nothing.
 use Prim.Native.Nat.{ℕ, _+_, _*_, _/_, _%_, _≤_, _<_}
 use native.Mathlib.Omega.{arith}
 use mathlib.Core.Path.{_≡_, refl, ap₂}
@@ -13,6 +14,7 @@ use Rattle.text.specs.Grammar.{LabelText, one-digit, two-digits, PathText, one-
 use Rattle.text.specs.Grammar.{dot, letter-v, caret, greater, less, square, round, one-conjunction, plus}
 use Rattle.text.specs.Grammar.{one-term, ampersand, exclamation, letter-t, letter-f, hash, curly, a-path}
 use Rattle.text.specs.Promise.{opening, howMany}
+use Rattle.shortest.proofs.Plain.{Plain, EndsInStar, plain-front, plain-behind, plain-parts, plain-inside, starred-open, ends-with}
 use Rattle.shortest.proofs.Shown.{pathRank, filterRank, between, held, pathHeld, filterHeld, labelShown, pathShown, filterShown}
 
 -- how many brackets open in a text
@@ -142,33 +144,41 @@ looser-filter : {least most : ℕ} → least ≤ most → (u : Bytes) (f : Filte
 unfolding filterHeld
 looser-filter l u f b = loosen 123 125 curly-opens l (filterRank f) (filterShown f) b
 
--- by induction over the grammar, all kinds at once
-pub path-best : {u : Bytes} {p : Path} → PathText u p → Best u (pathShown p)
+-- of an item: it may stand before a star if it does not end in one
+abbrev BestItem : Bytes → Path → Type 0
+BestItem u p = BestPath 2 u p × (¬ EndsInStar u → BestPath 3 u p)
+
+-- by induction over the grammar, all kinds at once, where no star stands right behind a star
+pub path-best : {u : Bytes} {p : Path} → PathText u p → Plain u → Best u (pathShown p)
 unfolding pathHeld pathShown pathRank filterHeld filterShown filterRank held between
 path-best x =
-    elim x as (λ s p y. Best s (pathShown p)) (λ s p y. BestPath 1 s p) (λ s p y. BestPath 2 s p) (λ s p y. BestPath 3 s p)
-    (λ s f y. Best s (filterShown f)) (λ s f y. BestFilter 1 s f) (λ s f y. BestFilter 2 s f) [
-      | one-sequence {p = p} (x → h) ↦ bare 40 41 round-opens 1 (pathRank p) (pathShown p) h
-      | bar (x → h) (y → k) ↦ joined 124 h k
-      | one-item {s = s} {p = p} (x → h) ↦ looser-path (omega arith) s p h
-      | slash (x → h) (y → k) ↦ joined 47 h k
-      | an-atom {s = s} {p = p} (x → h) ↦ looser-path (omega arith) s p h
-      | starred (x → h) ↦ joined 42 h (inl refl)
-      | dot ↦ inl refl
-      | letter-v ↦ inl refl
-      | caret ↦ inl refl
-      | greater ↦ inl refl
-      | less ↦ inl refl
-      | square (x → h) ↦ enclosed 91 93 h
-      | round {p = p} (x → h) ↦ bracketed 40 41 round-opens 3 (pathRank p) h
-      | one-conjunction {f = f} (x → h) ↦ bare 123 125 curly-opens 1 (filterRank f) (filterShown f) h
-      | plus (x → h) (y → k) ↦ joined 43 h k
-      | one-term {s = s} {f = f} (x → h) ↦ looser-filter (omega arith) s f h
-      | ampersand (x → h) (y → k) ↦ joined 38 h k
-      | exclamation (x → h) ↦ ahead 33 h
-      | letter-t ↦ inl refl
-      | letter-f ↦ inl refl
-      | hash x ↦ ahead 35 (inl (label-best x))
-      | curly {f = f} (x → h) ↦ bracketed 123 125 curly-opens 2 (filterRank f) h
+    elim x as (λ s p y. Plain s → Best s (pathShown p)) (λ s p y. Plain s → BestPath 1 s p)
+    (λ s p y. Plain s → BestItem s p) (λ s p y. Plain s → BestPath 3 s p)
+    (λ s f y. Plain s → Best s (filterShown f)) (λ s f y. Plain s → BestFilter 1 s f) (λ s f y. Plain s → BestFilter 2 s f) [
+      | one-sequence {p = p} (x → h) ↦ λ plain. bare 40 41 round-opens 1 (pathRank p) (pathShown p) (h plain)
+      | bar {s = s} {u = u} (x → h) (y → k) ↦ λ plain. let (left, right) = plain-parts s 124 u plain in joined 124 (h left) (k right)
+      | one-item {s = s} {p = p} (x → h) ↦ λ plain. looser-path (omega arith) s p (h plain .0)
+      | slash {s = s} {u = u} (x → h) (y → k) ↦ λ plain. let (left, right) = plain-parts s 47 u plain in joined 47 (h left) (k right .0)
+      | an-atom {s = s} {p = p} (x → h) ↦ λ plain. (looser-path (omega arith) s p (h plain), λ ends. h plain)
+      | starred {s = s} (x → h) ↦
+          λ plain.
+          let item = h (plain-front s (42 ∷ []) plain) .1 (starred-open s plain) in
+          (joined 42 item (inl refl), λ ends. absurd (ends (ends-with s 42)))
+      | dot ↦ λ plain. inl refl
+      | letter-v ↦ λ plain. inl refl
+      | caret ↦ λ plain. inl refl
+      | greater ↦ λ plain. inl refl
+      | less ↦ λ plain. inl refl
+      | square {s = s} (x → h) ↦ λ plain. enclosed 91 93 (h (plain-inside 91 s 93 plain))
+      | round {s = s} {p = p} (x → h) ↦ λ plain. bracketed 40 41 round-opens 3 (pathRank p) (h (plain-inside 40 s 41 plain))
+      | one-conjunction {f = f} (x → h) ↦ λ plain. bare 123 125 curly-opens 1 (filterRank f) (filterShown f) (h plain)
+      | plus {s = s} {u = u} (x → h) (y → k) ↦ λ plain. let (left, right) = plain-parts s 43 u plain in joined 43 (h left) (k right)
+      | one-term {s = s} {f = f} (x → h) ↦ λ plain. looser-filter (omega arith) s f (h plain)
+      | ampersand {s = s} {u = u} (x → h) (y → k) ↦ λ plain. let (left, right) = plain-parts s 38 u plain in joined 38 (h left) (k right)
+      | exclamation {s = s} (x → h) ↦ λ plain. ahead 33 (h (plain-behind (33 ∷ []) s plain))
+      | letter-t ↦ λ plain. inl refl
+      | letter-f ↦ λ plain. inl refl
+      | hash x ↦ λ plain. ahead 35 (inl (label-best x))
+      | curly {s = s} {f = f} (x → h) ↦ λ plain. bracketed 123 125 curly-opens 2 (filterRank f) (h (plain-inside 123 s 125 plain))
       | a-path (x → h) ↦ h
     ]

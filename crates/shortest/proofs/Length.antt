@@ -11,7 +11,7 @@ use Rattle.text.specs.Grammar.{LabelText, one-digit, two-digits, PathText, one-
 use Rattle.text.specs.Grammar.{dot, letter-v, caret, greater, less, square, round, one-conjunction, plus}
 use Rattle.text.specs.Grammar.{one-term, ampersand, exclamation, letter-t, letter-f, hash, curly, a-path}
 use Rattle.text.specs.Promise.{opening, howMany}
-use Rattle.text.specs.Print.{Fewest}
+use Rattle.text.specs.Print.{PlainText, Fewest}
 use Rattle.derivation.proofs.NextByte.{digit-opens-nothing}
 use Rattle.shortest.proofs.Shown.{labelShown}
 use Rattle.shortest.proofs.Best.{opens, opens-append, label-best}
@@ -114,9 +114,13 @@ path-sized x =
       | a-path (x → h) ↦ h
     ]
 
--- The text with the fewest brackets is no longer than any other.
-pub fewest-shortest : {p : Path} {s : Bytes} → Fewest p s → (u : Bytes) → PathText u p → length s ≤ length u
-fewest-shortest x u y = let a = path-sized (x .of) in let b = path-sized y in let c = x .fewest u y in omega arith
+-- The text with the fewest brackets is no longer than any other in which no star stands right behind a star.
+pub fewest-shortest : {p : Path} {s : Bytes} → Fewest p s → (u : Bytes) → PlainText p u → length s ≤ length u
+fewest-shortest x u y =
+    let a = path-sized (x .of .text-of) in
+    let b = path-sized (y .text-of) in
+    let c = x .fewest u y in
+    omega arith
 
 -- every text has a byte
 pub text-some : {p : Path} {s : Bytes} → PathText s p → 1 ≤ length s

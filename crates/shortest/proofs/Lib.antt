@@ -1,4 +1,5 @@
 pub mod Shown
+pub mod Plain
 pub mod Best
 pub mod Texts
 pub mod Length

@@ -15,10 +15,11 @@ use Rattle.query.specs.Table.{entries, entryBytes, queryOf}
 use Rattle.query.specs.Fault.{curators, Query}
 use Rattle.query.proofs.Bytes.{bytes-length}
 use Rattle.text.specs.Written.{tableOf}
-use Rattle.text.specs.Promise.{TextLength, TextFault, too-large, TextOf, TextRead}
-use Rattle.text.specs.Print.{Printable, TextGiven, TablePrinted, ReadAgain, same-query, too-many, RoundTrip}
+use Rattle.text.specs.Promise.{TextLength, two-stars, Faultless, TextFault, too-large, TextOf, TextRead}
+use Rattle.text.specs.Print.{PlainText, Printable, TextGiven, TablePrinted, ReadAgain, same-query, too-many, RoundTrip}
 use Rattle.derivation.proofs.Back.{table-back, query-back}
 use Rattle.derivation.proofs.Accepted.{text-query}
+use Rattle.derivation.proofs.Mistakes.{whole-faultless}
 use Rattle.derivation.proofs.Unique.{text-read-one}
 use Rattle.shortest.proofs.Shown.{pathShown}
 use Rattle.shortest.proofs.Texts.{shown-fewest, fewest-shown}
@@ -30,24 +31,36 @@ use Rattle.shortest.proofs.Unique.{print-wrong}
 
 -- A path within the limits whose text is short enough:
 module _ (p : Path) (limited : Limited curators p) (most : length (pathShown p) ≤ 1024) where
+  shown-plain : PlainText p (pathShown p)
+  shown-plain = shown-fewest p (limited .labels) .of
+
   shown-length : TextLength (pathShown p)
-  shown-length = record { some = text-some (shown-fewest p (limited .labels) .of); most = most }
+  shown-length = record { some = text-some (shown-plain .text-of); most = most }
+
+  -- nothing is wrong with it at any place,
+  shown-faultless : Faultless (pathShown p)
+  shown-faultless =
+      whole-faultless (shown-plain .text-of) (shown-shallow p (limited .labels) (limited .low)) (λ k l. shown-plain .plain k)
 
   -- the text is accepted if the table has few entries,
   shown-text : length (tableOf p) ≤ 256 → TextOf p (pathShown p)
   shown-text few =
       record {
         length = shown-length;
-        path = shown-fewest p (limited .labels) .of;
-        shallow = shown-shallow p (limited .labels) (limited .low);
+        path = shown-plain .text-of;
+        faultless = shown-faultless;
         fits = record { few = few; low = λ i l. omega (arith, table-low p i l, limited .low) };
       }
 
   -- and refused with 16 if it has more
   shown-fault : 256 < length (tableOf p) → TextFault (pathShown p) 16 0
   shown-fault many =
-      too-large shown-length (shown-fewest p (limited .labels) .of) (shown-shallow p (limited .labels) (limited .low))
-      (λ fits. omega (arith, fits .few))
+      too-large shown-length (shown-plain .text-of) shown-faultless (λ fits. omega (arith, fits .few))
+
+-- no star stands right behind a star in a text that is accepted
+text-plain : {p : Path} {text : Bytes} → TextOf p text → PlainText p text
+unfolding Faultless
+text-plain t = record { text-of = t .path; plain = λ k s. t .faultless 19 k (two-stars s) }
 
 -- A text that is accepted:
 module _ {p : Path} {text : Bytes} (t : TextOf p text) where
@@ -144,7 +157,7 @@ module _ {text table : Bytes} {n : ℕ} (w : Wrote text n table) where
       let q : Query curators (take (6 * n) table) = rw (w .bytes) (text-query (w .text-of)) in
       let p : Path = queryOf (entries (take (6 * n) table)) in
       let fewest = shown-fewest p (query-limited q .labels) in
-      let shorter = fewest-shortest fewest text (rw wrote-path (w .text-of .path)) in
+      let shorter = fewest-shortest fewest text (rw wrote-path (text-plain (w .text-of))) in
       record { query = q; text = pathShown p; printed = fewest; most = omega (arith, w .text-of .length .most) }
 
   module _ (room′ text′ : Bytes) where

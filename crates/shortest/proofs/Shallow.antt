@@ -135,7 +135,7 @@ mutual
   path-below (either p q) h =
       joined-below 124 (refl, refl) (below-more (omega arith) (path-below p (h .0)))
       (path-held-below 1 q (omega arith) (path-below q (h .1)))
-  path-below (star p) h = both (path-held-below 2 p (omega arith) (path-below p h)) (below-more (omega arith) (plain (refl, refl)))
+  path-below (star p) h = both (path-held-below 3 p (omega arith) (path-below p h)) (below-more (omega arith) (plain (refl, refl)))
 
   filter-below : (f : Filter) → FilterLabels f → Below (filterHeight f) (filterShown f)
   filter-below (labelled l) h = both (plain (refl, refl)) (label-below l h)

@@ -59,7 +59,7 @@ unfoldable mutual
   pathShown (stay f) = between (code "[") (code "]") (filterShown f)
   pathShown (then p q) = pathHeld 1 p (pathShown p) ++ code "/" ∷ pathHeld 2 q (pathShown q)
   pathShown (either p q) = pathShown p ++ code "|" ∷ pathHeld 1 q (pathShown q)
-  pathShown (star p) = pathHeld 2 p (pathShown p) ++ code "*" ∷ []
+  pathShown (star p) = pathHeld 3 p (pathShown p) ++ code "*" ∷ []
 
   pub filterShown : Filter → Bytes
   filterShown (labelled l) = code "#" ∷ labelShown l

@@ -16,6 +16,7 @@ use Rattle.text.specs.Grammar.{LabelText, PathText, SequenceText, ItemText, Ato
 use Rattle.text.specs.Print.{Fewest}
 use Rattle.derivation.proofs.Ordered.{label-read}
 use Rattle.shortest.proofs.Shown.{pathRank, filterRank, between, held, pathHeld, filterHeld, labelShown, pathShown, filterShown}
+use Rattle.shortest.proofs.Plain.{Plain, EndsInStar, plain-nothing, plain-byte, plain-both, plain-joined, plain-between, plain-held, ends-with}
 use Rattle.shortest.proofs.Best.{Best, path-best, no-fewer}
 
 -- each label in a path, and in a filter, is a label
@@ -158,7 +159,7 @@ mutual
       grammar.slash (path-held p (path-text p (h .0)) 1 (omega arith)) (path-held q (path-text q (h .1)) 2 (omega arith))
   path-text (either p q) h =
       grammar.bar (path-bare p (path-text p (h .0))) (path-held q (path-text q (h .1)) 1 (omega arith))
-  path-text (star p) h = grammar.starred (path-held p (path-text p h) 2 (omega arith))
+  path-text (star p) h = grammar.starred (grammar.an-atom (path-held p (path-text p h) 3 (omega arith)))
 
   filter-text : (f : Filter) → FilterLabels f → FilterAt f (filterRank f) (filterShown f)
   filter-text (labelled l) h = grammar.hash (label-text l h)
@@ -171,18 +172,72 @@ mutual
   filter-text (or f g) h =
       grammar.plus (filter-bare f (filter-text f (h .0))) (filter-held g (filter-text g (h .1)) 1 (omega arith))
 
+-- An operand of a star, in brackets unless it is an atom, does not end in a star.
+atom-ends : (p : Path) (s : Bytes) → s ≡ pathShown p → ¬ EndsInStar (pathHeld 3 p s)
+unfolding pathHeld pathRank held between pathShown
+atom-ends self s e f = omega (arith, rw e at f)
+atom-ends child s e f = omega (arith, rw e at f)
+atom-ends parent s e f = omega (arith, rw e at f)
+atom-ends next s e f = omega (arith, rw e at f)
+atom-ends previous s e f = omega (arith, rw e at f)
+atom-ends (stay g) s e f = omega (arith, rw e at f, ends-with (91 ∷ filterShown g) 93)
+atom-ends (then p q) s e f = omega (arith, f, ends-with (40 ∷ s) 41)
+atom-ends (either p q) s e f = omega (arith, f, ends-with (40 ∷ s) 41)
+atom-ends (star p) s e f = omega (arith, f, ends-with (40 ∷ s) 41)
+
+-- no star stands right behind a star in what is shown
+path-plain-held : (least : ℕ) (p : Path) → Plain (pathShown p) → Plain (pathHeld least p (pathShown p))
+unfolding pathHeld
+path-plain-held least p plain = plain-held 40 41 (λ e. omega arith) (λ e. omega arith) least (pathRank p) plain
+
+filter-plain-held : (least : ℕ) (f : Filter) → Plain (filterShown f) → Plain (filterHeld least f (filterShown f))
+unfolding filterHeld
+filter-plain-held least f plain = plain-held 123 125 (λ e. omega arith) (λ e. omega arith) least (filterRank f) plain
+
+label-plain : (l : ℕ) → Plain (labelShown l)
+unfolding labelShown
+label-plain l = go (ltb l 10)
+  where
+    go : (x : Bool) → Plain (cond x ((48 + l) ∷ []) ((48 + l / 10) ∷ (48 + l % 10) ∷ []))
+    go true = plain-byte (48 + l)
+    go false = plain-joined [] (48 + l / 10) ((48 + l % 10) ∷ []) (λ e. omega arith) plain-nothing (plain-byte (48 + l % 10))
+
+mutual
+  unfolding pathShown filterShown
+
+  path-plain : (p : Path) → Plain (pathShown p)
+  path-plain self = plain-byte 46
+  path-plain child = plain-byte 118
+  path-plain parent = plain-byte 94
+  path-plain next = plain-byte 62
+  path-plain previous = plain-byte 60
+  path-plain (stay f) = plain-between 91 93 (λ e. omega arith) (λ e. omega arith) (filter-plain f)
+  path-plain (then p q) = plain-joined _ 47 _ (λ e. omega arith) (path-plain-held 1 p (path-plain p)) (path-plain-held 2 q (path-plain q))
+  path-plain (either p q) = plain-joined _ 124 _ (λ e. omega arith) (path-plain p) (path-plain-held 1 q (path-plain q))
+  path-plain (star p) =
+      plain-both _ (42 ∷ []) (path-plain-held 3 p (path-plain p)) (plain-byte 42) (λ e f. atom-ends p (pathShown p) refl e)
+
+  filter-plain : (f : Filter) → Plain (filterShown f)
+  filter-plain (labelled l) = plain-joined [] 35 (labelShown l) (λ e. omega arith) plain-nothing (label-plain l)
+  filter-plain (leads p) = path-plain p
+  filter-plain always = plain-byte 116
+  filter-plain never = plain-byte 102
+  filter-plain (not f) = plain-joined [] 33 _ (λ e. omega arith) plain-nothing (filter-plain-held 2 f (filter-plain f))
+  filter-plain (and f g) = plain-joined _ 38 _ (λ e. omega arith) (filter-plain-held 1 f (filter-plain f)) (filter-plain-held 2 g (filter-plain g))
+  filter-plain (or f g) = plain-joined _ 43 _ (λ e. omega arith) (filter-plain f) (filter-plain-held 1 g (filter-plain g))
+
 -- A path with labels has a text with the fewest brackets,
 pub shown-fewest : (p : Path) → PathLabels p → Fewest p (pathShown p)
 shown-fewest p h =
     record {
-      of = path-bare p (path-text p h);
-      fewest = λ other x. no-fewer (path-best x);
+      of = record { text-of = path-bare p (path-text p h); plain = path-plain p };
+      fewest = λ other x. no-fewer (path-best (x .text-of) (x .plain));
     }
 
 -- and every path has at most one.
 pub fewest-shown : {p : Path} {s : Bytes} → Fewest p s → s ≡ pathShown p
-fewest-shown {p} {s} x = go (path-best (x .of))
+fewest-shown {p} {s} x = go (path-best (x .of .text-of) (x .of .plain))
   where
     go : Best s (pathShown p) → s ≡ pathShown p
     go (inl e) = e
-    go (inr l) = let k = x .fewest (pathShown p) (shown-fewest p (text-labels (x .of)) .of) in absurd (omega arith)
+    go (inr l) = let k = x .fewest (pathShown p) (shown-fewest p (text-labels (x .of .text-of)) .of) in absurd (omega arith)

@@ -32,7 +32,7 @@ paths =
     ∷ shows (then child (then child child)) "v/(v/v)"
     ∷ shows (either child (either child child)) "v|(v|v)"
     ∷ shows (star (then child child)) "(v/v)*"
-    ∷ shows (star (star child)) "v**"
+    ∷ shows (star (star child)) "(v*)*"
     ∷ shows (stay (and (not (or (labelled 1) always)) never)) "[!{#1+t}&f]"
     ∷ shows (stay (or (labelled 9) (or (labelled 10) (labelled 64)))) "[#9+{#10+#64}]"
     ∷ []

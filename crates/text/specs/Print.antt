@@ -11,12 +11,17 @@ use Rattle.query.specs.Table.{entries, queryOf}
 use Rattle.query.specs.Fault.{curators, Query, QueryFault}
 use Rattle.text.specs.Grammar.{PathText}
 use Rattle.text.specs.Written.{tableOf}
-use Rattle.text.specs.Promise.{opening, howMany, TextRead}
+use Rattle.text.specs.Promise.{opening, howMany, StarBehindStar, TextRead}
 
--- "query text with the fewest brackets that keep its grouping": a text of the path, and no text of that path has fewer brackets that open
+-- A text of the path in which no star stands right behind a star: "Brackets, as in (v*)*, still say it on purpose".
+pub record PlainText (p : Path) (text : Bytes) : Type 0 where
+  pub text-of : PathText text p
+  pub plain : (k : ℕ) → ¬ StarBehindStar text k
+
+-- "query text with the fewest brackets that keep its grouping": such a text, and none of that path has fewer brackets that open
 pub record Fewest (p : Path) (text : Bytes) : Type 0 where
-  pub of : PathText text p
-  pub fewest : (other : Bytes) → PathText other p → howMany opening text ≤ howMany opening other
+  pub of : PlainText p text
+  pub fewest : (other : Bytes) → PlainText p other → howMany opening text ≤ howMany opening other
 
 -- 18, "exactly when that text would be longer than 1,024 bytes"
 pub data TooLong (p : Path) : ℕ → ℕ → Type 0 where

@@ -51,23 +51,41 @@ pub record OneTooMany (text : Bytes) (i : ℕ) : Type 0 where
   pub bracket : T (opening (getD text i 0))
   pub already : howMany opening (take i text) ≡ howMany closing (take i text) + 32
 
+-- 19, "the first star right behind a star"
+pub data StarBehindStar (text : Bytes) : ℕ → Type 0 where
+  behind : {i : ℕ} → getD text i 0 ≡ code "*" → getD text (suc i) 0 ≡ code "*" → StarBehindStar text (suc i)
+
+-- What may be wrong at a place of a text, by its number.
+pub data Mistake (text : Bytes) : ℕ → ℕ → Type 0 where
+  breaks : {i : ℕ} → Breaks text i → Mistake text 14 i
+  too-deep : {i : ℕ} → OneTooMany text i → Mistake text 15 i
+  two-stars : {i : ℕ} → StarBehindStar text i → Mistake text 19 i
+
+-- "of 14, 15 and 19 the lowest place wins", "14 if equal": the lowest number, at the lowest place
+pub record FirstMistake (text : Bytes) (n i : ℕ) : Type 0 where
+  pub is : Mistake text n i
+  pub first : (m k : ℕ) → Mistake text m k → (i < k) ⊎ ((i ≡ k) × (n ≤ m))
+
+-- nothing is wrong at any place
+unfoldable pub Faultless : Bytes → Type 0
+Faultless text = (n i : ℕ) → ¬ Mistake text n i
+
 -- The table is within the curator's limits.
 pub record Fits (es : Entries) : Type 0 where
   pub few : length es ≤ curators .entries
   pub low : (i : ℕ) → i < length es → heightAt es i ≤ curators .height
 
--- "Text: 1, 13, then 14 or 15 at the lower place, 14 if equal, then 16."
+-- "Text: 1, 13, then 14 or 15 at the lower place, 14 if equal, then 16", and Q-2's 19 between them
 pub data TextFault (text : Bytes) : ℕ → ℕ → Type 0 where
   bad-length : ¬ TextLength text → TextFault text 13 0
-  breaks : {i : ℕ} → TextLength text → Breaks text i → ((k : ℕ) → k < i → ¬ OneTooMany text k) → TextFault text 14 i
-  too-deep : {i : ℕ} → TextLength text → OneTooMany text i → ((k : ℕ) → k < i → ¬ OneTooMany text k) → ((k : ℕ) → k ≤ i → ¬ Breaks text k) → TextFault text 15 i
-  too-large : {p : Path} → TextLength text → PathText text p → ((k : ℕ) → ¬ OneTooMany text k) → ¬ Fits (tableOf p) → TextFault text 16 0
+  mistaken : {n i : ℕ} → TextLength text → FirstMistake text n i → TextFault text n i
+  too-large : {p : Path} → TextLength text → PathText text p → Faultless text → ¬ Fits (tableOf p) → TextFault text 16 0
 
 -- The text is one of the path p, and nothing is wrong with it.
 pub record TextOf (p : Path) (text : Bytes) : Type 0 where
   pub length : TextLength text
   pub path : PathText text p
-  pub shallow : (k : ℕ) → ¬ OneTooMany text k
+  pub faultless : Faultless text
   pub fits : Fits (tableOf p)
 
 -- The path's table is in the room, and the count is its number of entries.

@@ -24,7 +24,7 @@ same-length : tie.Need-same-length
 same-length c = search needs
 
 returns : tie.Need-returns
-returns c = stopped-parses (start (c .before) .pre .0) (c .match .keys2) (path-read (c .before) .path .ensures)
+returns c = stopped-parses (c .match .keys2) (path-read (c .before) .path .ensures)
 
 same-length-2 : tie.Need-same-length-2
 same-length-2 c = search needs
@@ -33,7 +33,7 @@ returns-2 : tie.Need-returns-2
 returns-2 c =
     let known = c .before .before in
     let look = looked known in
-    longer-parses (start look .pre .0) (known .parsed .given .1) (c .if1 .taken) (path-read look .path .ensures)
+    longer-parses (known .parsed .given .1) (c .if1 .taken) (path-read look .path .ensures)
 
 same-length-3 : tie.Need-same-length-3
 same-length-3 c = search needs
