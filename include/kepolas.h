@@ -58,7 +58,8 @@ enum kepolas_reason {
     KEPOLAS_TOO_MANY_OPEN = 15,     /* a bracket is opened while 32 are open: that byte */
     KEPOLAS_TABLE_TOO_LARGE = 16,   /* text in the grammar, but its table passes 256 entries or height 32 */
     KEPOLAS_FILE_UNREADABLE = 17,   /* the program alone: a file cannot be read. No call returns it */
-    KEPOLAS_TEXT_TOO_LONG = 18      /* the text to be printed is longer than 1,024 bytes */
+    KEPOLAS_TEXT_TOO_LONG = 18,     /* the text to be printed is longer than 1,024 bytes */
+    KEPOLAS_TWO_STARS = 19          /* a star right behind a star: that byte */
 };
 
 /* Call 1: checks a roll. Counts its nodes. */

@@ -75,8 +75,8 @@ pub fn check_roll(roll: &[u8]) -> Result<usize, Refusal> {
 /// them stay as they were.
 ///
 /// Refuses with [`ShortRoom`](Reason::ShortRoom) where the room is shorter than [`rooms::TABLE`], then with
-/// [`TextLength`](Reason::TextLength), [`NotInGrammar`](Reason::NotInGrammar), [`TooManyOpen`](Reason::TooManyOpen) or
-/// [`TableTooLarge`](Reason::TableTooLarge). A refused call changes no byte of the room.
+/// [`TextLength`](Reason::TextLength), [`NotInGrammar`](Reason::NotInGrammar), [`TooManyOpen`](Reason::TooManyOpen),
+/// [`TwoStars`](Reason::TwoStars) or [`TableTooLarge`](Reason::TableTooLarge). A refused call changes no byte of the room.
 ///
 /// ```
 /// use kepolas::{read_text, rooms, Reason, Refusal};

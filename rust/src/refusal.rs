@@ -44,10 +44,12 @@ pub enum Reason {
     FileUnreadable = 17,
     /// 18: the text to be printed is longer than 1,024 bytes.
     TextTooLong = 18,
+    /// 19: a star stands right behind a star; the place is the first such star.
+    TwoStars = 19,
 }
 
 /// All reasons, in the order of their numbers.
-const ALL: [Reason; 18] = [
+const ALL: [Reason; 19] = [
     Reason::ShortRoom,
     Reason::RollLength,
     Reason::NodeLabel,
@@ -66,10 +68,11 @@ const ALL: [Reason; 18] = [
     Reason::TableTooLarge,
     Reason::FileUnreadable,
     Reason::TextTooLong,
+    Reason::TwoStars,
 ];
 
 impl Reason {
-    /// The number in the list of refusals, 1 to 18.
+    /// The number in the list of refusals, 1 to 19.
     pub fn number(self) -> u8 {
         self as u8
     }
@@ -101,10 +104,11 @@ impl Reason {
             Reason::TableTooLarge => "text's table passes 256 entries or height 32",
             Reason::FileUnreadable => "file cannot be read",
             Reason::TextTooLong => "printed text longer than 1,024 bytes",
+            Reason::TwoStars => "star right behind a star",
         }
     }
 
-    /// The reason that has a number; none has 0 or a number above 18.
+    /// The reason that has a number; none has 0 or a number above 19.
     ///
     /// ```
     /// use kepolas::Reason;
