@@ -59,7 +59,8 @@ fn ways(number: usize, entry: Entry, line: Line) -> Vec<Vec<Piece>> {
     let of_this_entry = match (line, entry) {
         (Path, Either(left, right)) => vec![Part(Path, left), Byte(b'|'), Part(Sequence, right)],
         (Sequence, Then(left, right)) => vec![Part(Sequence, left), Byte(b'/'), Part(Item, right)],
-        (Item, Star(path)) => vec![Part(Item, path), Byte(b'*')],
+        // Two stars in a row are not read, so what has a star is an atom.
+        (Item, Star(path)) => vec![Part(Atom, path), Byte(b'*')],
         (Atom, Itself) => vec![Byte(b'.')],
         (Atom, Child) => vec![Byte(b'v')],
         (Atom, Parent) => vec![Byte(b'^')],

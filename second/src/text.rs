@@ -13,7 +13,7 @@ use crate::table::{heights, Entry, CURATORS_QUERY};
 pub const MOST_BYTES: usize = 1024;
 const MOST_OPEN: usize = 32;
 
-/// The table of a query text, or what is wrong with the text (13 to 16).
+/// The table of a query text, or what is wrong with the text (13 to 16, and 19).
 pub fn read(text: &[u8]) -> Result<Vec<Entry>, Refusal> {
     if text.is_empty() || text.len() > MOST_BYTES {
         return Err(refusal(13, 0));
@@ -36,6 +36,8 @@ enum Stand {
     Term,
     /// An item has ended; stars may still come.
     Item,
+    /// The same, and its last byte is a star.
+    Starred,
     /// A term that is no path has ended.
     Plain,
     /// The first digit of a label must come.
@@ -50,17 +52,22 @@ struct Walk {
     open: Vec<u8>,
 }
 
-/// Walks a text: the first byte out of place is 14, the first bracket too many 15, an end too early 14 at the length.
+/// Walks a text: the first byte out of place is 14, the first bracket too many 15, the first star behind a star 19, an end too early 14 at
+/// the length.
 fn walk(text: &[u8]) -> Result<(), Refusal> {
     let mut walk = Walk { stand: Stand::Atom, open: Vec::new() };
     for (place, byte) in text.iter().enumerate() {
+        // The grammar takes any number of stars, so 14 has nothing to say of this one.
+        if walk.stand == Stand::Starred && *byte == b'*' {
+            return Err(refusal(19, place));
+        }
         walk.stand = walk.after(*byte).ok_or(refusal(14, place))?;
         // Only a bracket in its place gets here, so 14 has gone first.
         if walk.open.len() > MOST_OPEN {
             return Err(refusal(15, place));
         }
     }
-    let complete = walk.open.is_empty() && walk.stand == Stand::Item;
+    let complete = walk.open.is_empty() && matches!(walk.stand, Stand::Item | Stand::Starred);
     complete.then_some(()).ok_or(refusal(14, text.len()))
 }
 
@@ -80,9 +87,9 @@ impl Walk {
             (Stand::Term, b'#') => Some(Stand::Label),
             (Stand::Label, b'1'..=b'9') => Some(Stand::Digit(byte - b'0')),
             (Stand::Digit(tens), b'0'..=b'9') => (tens * 10 + (byte - b'0') <= MOST_LABEL).then_some(Stand::Plain),
-            (Stand::Item, b'*') => Some(Stand::Item),
-            (Stand::Item, b'/' | b'|') => Some(Stand::Atom),
-            (Stand::Item | Stand::Plain | Stand::Digit(_), _) => self.operand_ended(byte),
+            (Stand::Item, b'*') => Some(Stand::Starred),
+            (Stand::Item | Stand::Starred, b'/' | b'|') => Some(Stand::Atom),
+            (Stand::Item | Stand::Starred | Stand::Plain | Stand::Digit(_), _) => self.operand_ended(byte),
             _ => None,
         }
     }

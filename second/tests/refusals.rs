@@ -206,7 +206,8 @@ fn heights_are_limited_by_the_table_they_stand_in() {
     assert_eq!(curators(&one_node(), &[], &[], &table(&tower(33, true))), refused(9, 32));
     assert_eq!(curators(&one_node(), &[], &[], &table(&tower(32, true))), Reply::Count(1));
     assert_eq!(print(&table(&tower(33, true))), refused(9, 32));
-    assert_eq!(print(&table(&tower(32, true))), Reply::Count(32));
+    // A step, 31 stars, and a pair of brackets between each two of them.
+    assert_eq!(print(&table(&tower(32, true))), Reply::Count(1 + 31 + 2 * 30));
     assert_eq!(on_roll(&one_node(), &table(&tower(129, true))), refused(9, 128));
     assert_eq!(on_roll(&one_node(), &table(&tower(128, true))), Reply::Count(1));
 }

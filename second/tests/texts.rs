@@ -1,4 +1,4 @@
-//! Query texts against the grammar of document 01, tried out split by split.
+//! Query texts against the grammar of document 01, tried out split by split, and document 02's rule on stars.
 
 mod common;
 
@@ -111,12 +111,20 @@ fn reply(text: &[u8]) -> Reply {
     second::read_text(text, &mut [0; TEXT_ROOM])
 }
 
-/// Checks that a text is refused with 14 at this place, or is read if there is none.
-fn check_reply(text: &[u8], place: Option<usize>) {
-    match place {
-        Some(place) => assert_eq!(reply(text), refused(14, place), "{}", String::from_utf8_lossy(text)),
+/// The place of 19: the first star right behind a star, whatever else the text is.
+fn place_of_19(text: &[u8]) -> Option<usize> {
+    text.windows(2).position(|pair| pair == b"**").map(|first| first + 1)
+}
+
+/// Checks that a text is refused with 14 at this place or with 19, whichever is lower, or is read if there is neither. Gives the number.
+fn check_reply(text: &[u8], place_of_14: Option<usize>) -> Option<u8> {
+    let places = [(14, place_of_14), (19, place_of_19(text))];
+    let lowest = places.into_iter().filter_map(|(number, place)| Some((place?, number))).min();
+    match lowest {
+        Some((place, number)) => assert_eq!(reply(text), refused(number, place), "{}", String::from_utf8_lossy(text)),
         None => assert!(matches!(reply(text), Reply::Count(_)), "{}", String::from_utf8_lossy(text)),
     }
+    lowest.map(|(_, number)| number)
 }
 
 #[test]
@@ -124,12 +132,11 @@ fn every_text_of_up_to_three_bytes_is_judged_as_the_grammar_says() {
     let mut grammar = Grammar::default();
     let mut accepted = [0; 3];
     for text in (1..=3).flat_map(|length| all_texts(BYTES, length)) {
-        let place = grammar.place_of_14(&text);
-        check_reply(&text, place);
-        accepted[text.len() - 1] += usize::from(place.is_none());
+        let number = check_reply(&text, grammar.place_of_14(&text));
+        accepted[text.len() - 1] += usize::from(number.is_none());
     }
-    // Atoms; an atom and `*`; two atoms and an operator, an atom and `**`, and `(a)`, `[a]`, `[t]`, `[f]`.
-    assert_eq!(accepted, [5, 5, 5 * 5 * 2 + 5 + 5 + 5 + 2]);
+    // Atoms; an atom and `*`; two atoms and an operator, and `(a)`, `[a]`, `[t]`, `[f]`.
+    assert_eq!(accepted, [5, 5, 5 * 5 * 2 + 5 + 5 + 2]);
 }
 
 #[test]
@@ -154,20 +161,21 @@ fn every_text_of_four_bytes_is_judged_as_the_grammar_says() {
 fn every_text_of_up_to_seven_bytes_in_a_small_alphabet_is_judged_as_the_grammar_says() {
     let mut grammar = Grammar::default();
     let mut beginnings: Vec<Vec<u8>> = vec![vec![]];
-    let mut accepted = 0;
+    let (mut accepted, mut starred) = (0, 0);
     for _ in 0..7 {
         let mut longer = Vec::new();
         for text in beginnings.iter().flat_map(|begun| b"v[]()/*!t{}&".map(|byte| [&begun[..], &[byte]].concat())) {
             let place = grammar.place_of_14(&text);
-            check_reply(&text, place);
-            accepted += usize::from(place.is_none());
+            let number = check_reply(&text, place);
+            accepted += usize::from(number.is_none());
+            starred += usize::from(number == Some(19));
             if place.is_none_or(|place| place == text.len()) {
                 longer.push(text);
             }
         }
         beginnings = longer;
     }
-    assert!(accepted > 100 && beginnings.len() > 5000, "{accepted} {}", beginnings.len());
+    assert!(accepted > 100 && starred > 100 && beginnings.len() > 5000, "{accepted} {starred} {}", beginnings.len());
 }
 
 /// The place of 14 by its own words: a text goes on or it does not, tried out on the reader alone.
@@ -244,7 +252,7 @@ impl Author<'_> {
                 (format!("[{filter}]"), hold::ATOM)
             }
             4 => {
-                let path = self.path(depth - 1, hold::ITEM);
+                let path = self.path(depth - 1, hold::ATOM);
                 self.put(9, 0, self.last(), 0);
                 (format!("{path}*"), hold::ITEM)
             }
@@ -353,12 +361,13 @@ fn accepted_texts_are_queries_for_a_roll_and_for_a_curator() {
     assert!(accepted > 1000, "{accepted}");
 }
 
-/// Changes, adds or takes away a byte, or cuts the end off, or does nothing.
+/// Changes, adds, doubles or takes away a byte, or cuts the end off, or does nothing.
 fn spoil(chance: &mut Chance, mut text: Vec<u8>) -> Vec<u8> {
     let (place, byte) = (chance.below(text.len()), chance.one_of(BYTES));
-    match chance.below(5) {
+    match chance.below(6) {
         0 => text[place] = byte,
         1 => text.insert(place, byte),
+        4 => text.insert(place, text[place]),
         2 if text.len() > 1 => drop(text.remove(place)),
         3 if place > 0 => text.truncate(place),
         _ => {}
@@ -369,7 +378,7 @@ fn spoil(chance: &mut Chance, mut text: Vec<u8>) -> Vec<u8> {
 #[test]
 fn spoilt_texts_are_judged_as_the_grammar_says() {
     let mut chance = Chance::new(6);
-    let (mut read, mut within) = (0, 0);
+    let (mut read, mut within, mut starred) = (0, 0, 0);
     for _ in 0..3000 {
         let (text, _) = some_text(&mut chance, 4);
         let spoilt = spoil(&mut chance, text.into_bytes());
@@ -377,11 +386,12 @@ fn spoilt_texts_are_judged_as_the_grammar_says() {
             continue;
         }
         let place = Grammar::default().place_of_14(&spoilt);
-        check_reply(&spoilt, place);
-        read += usize::from(place.is_none());
+        let number = check_reply(&spoilt, place);
+        read += usize::from(number.is_none());
+        starred += usize::from(number == Some(19));
         within += usize::from(place.is_some_and(|place| place > 2 && place < spoilt.len()));
     }
-    assert!(read > 500 && within > 200, "{read} {within}");
+    assert!(read > 500 && within > 200 && starred > 5, "{read} {within} {starred}");
 }
 
 #[test]
@@ -476,18 +486,49 @@ fn halved(steps: usize) -> String {
     }
 }
 
+/// A step under so many stars, each but the last in brackets.
+fn starred(stars: usize) -> String {
+    "(".repeat(stars - 1) + "v" + &"*)".repeat(stars - 1) + "*"
+}
+
 #[test]
 fn tables_may_have_256_entries_and_height_32() {
     assert_eq!(reply(halved(128).as_bytes()), Reply::Count(255));
     assert_eq!(reply(format!("{}*", halved(128)).as_bytes()), Reply::Count(256));
-    assert_eq!(reply(format!("{}**", halved(128)).as_bytes()), refused(16, 0));
+    assert_eq!(reply(format!("({}*)*", halved(128)).as_bytes()), refused(16, 0));
     assert_eq!(reply(halved(129).as_bytes()), refused(16, 0));
-    assert_eq!(reply(format!("v{}", "*".repeat(31)).as_bytes()), Reply::Count(32));
-    assert_eq!(reply(format!("v{}", "*".repeat(32)).as_bytes()), refused(16, 0));
+    assert_eq!(reply(starred(31).as_bytes()), Reply::Count(32));
+    assert_eq!(reply(starred(32).as_bytes()), refused(16, 0));
     assert_eq!(reply(format!("[{}t]", "!".repeat(30)).as_bytes()), Reply::Count(32));
     assert_eq!(reply(format!("[{}t]", "!".repeat(31)).as_bytes()), refused(16, 0));
     // 16 is only for texts in the grammar.
-    assert_eq!(reply(format!("v{})", "*".repeat(32)).as_bytes()), refused(14, 33));
+    assert_eq!(reply(format!("{})", starred(32)).as_bytes()), refused(14, starred(32).len()));
+}
+
+#[test]
+fn two_stars_in_a_row_are_refused_at_the_second() {
+    assert_eq!(reply(b"v**"), refused(19, 2));
+    assert_eq!(reply(b"v***"), refused(19, 2));
+    assert_eq!(reply(b"v*/v**"), refused(19, 5));
+    assert_eq!(reply(b"[v**]"), refused(19, 3));
+    assert_eq!(query("(v*)*"), table(&[entry(2, 0, 0, 0), entry(9, 0, 0, 0), entry(9, 0, 1, 0)]));
+    assert_eq!(query("((v*))*"), query("(v*)*"));
+    // A star at the beginning or behind a star is out of place before it is a slip.
+    assert_eq!(reply(b"**"), refused(14, 0));
+    assert_eq!(reply(b"(v)/**"), refused(14, 4));
+    assert_eq!(reply(b"[t**]"), refused(14, 2));
+}
+
+#[test]
+fn of_14_15_and_19_the_lowest_place_counts_and_16_comes_behind() {
+    let open = "(".repeat(33);
+    assert_eq!(reply(b"v**)"), refused(19, 2));
+    assert_eq!(reply(b"v)**"), refused(14, 1));
+    assert_eq!(reply(b"(v**"), refused(19, 3));
+    assert_eq!(reply(format!("v**/{open}v").as_bytes()), refused(19, 2));
+    assert_eq!(reply(format!("{open}v**").as_bytes()), refused(15, 32));
+    assert_eq!(reply(format!("{}**", halved(128)).as_bytes()), refused(19, halved(128).len() + 1));
+    assert_eq!(reply(format!("v{}", "*".repeat(32)).as_bytes()), refused(19, 2));
 }
 
 #[test]
@@ -502,6 +543,6 @@ fn texts_may_have_1024_bytes() {
     // Deep and long ones cost no depth of the reader.
     assert_eq!(reply(format!("[{}", "!".repeat(1023)).as_bytes()), refused(14, 1024));
     assert_eq!(reply(format!("[{}t]", "!".repeat(1021)).as_bytes()), refused(16, 0));
-    assert_eq!(reply(format!(".{}", "*".repeat(1023)).as_bytes()), refused(16, 0));
+    assert_eq!(reply(format!(".{}", "*".repeat(1023)).as_bytes()), refused(19, 2));
     assert_eq!(reply(vec!["v"; 512].join("|").as_bytes()), refused(16, 0));
 }

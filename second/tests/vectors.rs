@@ -25,9 +25,10 @@ fn list(nodes: &[usize]) -> String {
     }
 }
 
+/// The texts of document 01, of which none has two stars in a row, and those of document 02.
 #[test]
 fn texts() {
-    for case in cases(include_str!("vectors/texts.txt")) {
+    for case in [include_str!("vectors/texts.txt"), include_str!("vectors/stars.txt")].into_iter().flat_map(cases) {
         let mut room = [UNTOUCHED; TEXT_ROOM];
         let reply = second::read_text(&from_hex(case[0]), &mut room);
         let written = if let Reply::Count(entries) = reply { entries * 6 } else { 0 };
@@ -36,7 +37,7 @@ fn texts() {
     }
 }
 
-/// What stands behind a line's bar is for request Q-2 of document 02.
+/// In front of a line's bar stands what was printed while two stars in a row were read.
 #[test]
 fn prints() {
     for case in cases(include_str!("vectors/prints.txt")) {
@@ -44,7 +45,10 @@ fn prints() {
         let mut room = [UNTOUCHED; PRINT_ROOM];
         let reply = second::print_query(&from_hex(case[0]), &mut room);
         let written = if let Reply::Count(bytes) = reply { bytes } else { 0 };
-        assert_eq!(format!("{} {reply} {}", case[0], to_hex(&room[..written])), case[..bar].join(" "));
+        assert_eq!(
+            format!("{} {reply} {}", case[0], to_hex(&room[..written])),
+            [&case[..1], &case[bar + 1..]].concat().join(" ")
+        );
         assert!(room[written..].iter().all(|byte| *byte == UNTOUCHED));
     }
 }

@@ -120,12 +120,13 @@ fn texts_are_refused_where_listed() {
     assert_eq!(text_reply("[#65]"), refused(14, 3));
     assert_eq!(text_reply("v v"), refused(14, 1));
     assert_eq!(text_reply(""), refused(13, 0));
+    // Document 02 has made this a refusal.
+    assert_eq!(text_reply("v**"), refused(19, 2));
 }
 
 #[test]
 fn texts_are_read_where_listed() {
     assert_eq!(query("[#64]"), table(&[entry(16, 64, 0, 0), entry(6, 0, 0, 0)]));
-    assert_eq!(query("v**"), table(&[entry(2, 0, 0, 0), entry(9, 0, 0, 0), entry(9, 0, 1, 0)]));
 }
 
 #[test]
