@@ -51,6 +51,8 @@ pub const OF_TEXT: &[Kind] = &[
     (15, "a late byte"),
     (16, "the text"),
     (16, "a long text"),
+    (19, "a byte"),
+    (19, "a late byte"),
     (0, "a text"),
     (0, "a long text"),
     (0, "a text of many entries"),

@@ -29,7 +29,7 @@ pub struct Table {
 pub const PATHS: [u8; 9] = [1, 2, 3, 4, 5, 6, 7, 8, 9];
 pub const FILTERS: [u8; 7] = [16, 17, 18, 19, 20, 21, 22];
 
-/// In the runs that make a text longer: the bytes of an item with its joint, and those of a run with its own. Such a run is 29 high.
+/// In the runs that make a text longer: the bytes of an item with its joint, and those of a run with its own. Such a run is 27 high.
 const ITEM: usize = 11;
 const LONGEST_RUN: usize = 200;
 
@@ -145,24 +145,33 @@ impl Table {
     /// The same with runs of steps joined to its last entry, a path, until its text, which has so many bytes, has as many as wanted.
     pub fn lengthened(mut self, chance: &mut Chance, bytes: usize, wanted: usize) -> Table {
         let (mut last, mut missing) = (self.len() - 1, wanted - bytes);
+        let items = self.items(chance);
         while missing > 0 {
             let more = if missing > LONGEST_RUN { LONGEST_RUN - 1 - chance.below(50) } else { missing };
-            let run = self.run(chance, more - 1);
+            let run = self.run(&items, more - 1);
             last = self.push(8, 0, last, run);
             missing -= more;
         }
         self
     }
 
-    /// A path whose text has so many bytes: items joined by `/`, each a step with stars. All items but the first have one byte fewer than
-    /// `ITEM`, so that each makes the text longer by `ITEM` with its joint.
-    fn run(&mut self, chance: &mut Chance, bytes: usize) -> usize {
+    /// Paths whose texts have one byte, two and so on up to `ITEM`: a step, the same with a star, and `[t]` with `!` in it.
+    fn items(&mut self, chance: &mut Chance) -> Vec<usize> {
         let step = self.push(chance.pick(&[1, 2, 3, 4, 5]), 0, 0, 0);
-        for below in step..step + ITEM - 1 {
-            self.push(9, 0, below, 0);
+        let mut items = vec![step, self.push(9, 0, step, 0)];
+        let mut filter = self.push(18, 0, 0, 0);
+        while items.len() < ITEM {
+            items.push(self.push(6, 0, filter, 0));
+            filter = self.push(20, 0, filter, 0);
         }
-        let first = step + (bytes - 1) % ITEM;
-        (0..(bytes - 1) / ITEM).fold(first, |run, _| self.push(7, 0, run, step + ITEM - 2))
+        items
+    }
+
+    /// A path whose text has so many bytes: items joined by `/`. All of them but the first have one byte fewer than `ITEM`, so that each
+    /// makes the text longer by `ITEM` with its joint.
+    fn run(&mut self, items: &[usize], bytes: usize) -> usize {
+        let first = items[(bytes - 1) % ITEM];
+        (0..(bytes - 1) / ITEM).fold(first, |run, _| self.push(7, 0, run, items[ITEM - 2]))
     }
 
     /// A query of a few entries.

@@ -56,7 +56,7 @@ fn long(chance: &mut Chance) -> Vec<u8> {
         text.push(joint);
         text.extend(unit);
     }
-    let stars = (length - text.len()).min(chance.pick(&[0, 3, 1000]));
+    let stars = (length - text.len()).min(chance.pick(&[0, 1, 3, 1000]));
     text.extend(b"*".repeat(stars));
     text
 }
@@ -130,7 +130,9 @@ fn path(chance: &mut Chance, depth: usize, out: &mut Vec<u8>) {
             5 => bracketed(chance, depth, b'[', b']', filter, out),
             _ => bracketed(chance, depth, b'(', b')', path, out),
         }
-        out.extend(b"*".repeat(chance.below(3)));
+        // Two in a row are refused, so they are rare.
+        let stars = if chance.one_in(64) { 2 } else { chance.below(2) };
+        out.extend(b"*".repeat(stars));
     }
 }
 

@@ -22,7 +22,7 @@ fn the_worked_cases_on_the_roll() {
     assert_eq!(records(&roll, "[f]"), []);
     assert_eq!(records(&roll, "[t]"), [0]);
     assert_eq!(records(&roll, "(v|v/v)*"), (0..13).collect::<Vec<_>>());
-    for text in [".", "^", "v/v", "v/>", "v/v/>", "v/v/>/<", "v*/^", "v*/[!<]", "v*/[!>&!v]", "v**"] {
+    for text in [".", "^", "v/v", "v/>", "v/v/>", "v/v/>/<", "v*/^", "v*/[!<]", "v*/[!>&!v]", "(v*)*"] {
         same::answer_on_roll(&roll, &table_of(text), BITMAP_ROOM);
     }
 }
@@ -60,7 +60,7 @@ fn the_greatest_rolls() {
             "(v/v|^)*",
             "v*/[!v/v/v&^/^/^]",
             "(v/[#1]|>/[#2])*",
-            "v********",
+            "((((v*)*)*)*)*",
         ] {
             records(&roll, text);
         }

@@ -27,7 +27,7 @@ fn the_worked_cases() {
     assert_eq!(positions(&worked, "[f]"), []);
     assert_eq!(positions(&worked, "[t]"), [0]);
     assert_eq!(positions(&worked, "(v|v/v)*"), (0..8).collect::<Vec<_>>());
-    for text in ["v**", "[#64]", "v*/[!<]", "v*/[!>&!v]", "v*/>*", "(v|^|>|<)*"] {
+    for text in ["(v*)*", "[#64]", "v*/[!<]", "v*/[!>&!v]", "v*/>*", "(v|^|>|<)*"] {
         positions(&worked, text);
     }
 }

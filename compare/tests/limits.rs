@@ -157,7 +157,8 @@ fn the_entries_and_height_of_a_curators_query() {
 #[test]
 fn the_entries_and_height_of_a_printed_query() {
     let printed = |entries: usize, height: usize| same::print_query(&stars(entries, height), PRINT_ROOM).0;
-    assert_eq!([printed(32, 32), printed(256, 32)], [Reply::Count(32); 2]);
+    // A step, 31 stars, and a pair of brackets between each two of them.
+    assert_eq!([printed(32, 32), printed(256, 32)], [Reply::Count(1 + 31 + 2 * 30); 2]);
     assert_eq!([printed(33, 33), printed(256, 33)], [refused(9, 32); 2]);
     assert_eq!([printed(257, 32), printed(0, 1)], [refused(12, 0); 2]);
 }
@@ -250,14 +251,16 @@ fn the_entries_and_height_of_a_text() {
     let joined = vec![sequence; 8].join("|");
     assert_eq!(read(&joined), Reply::Count(255));
     assert_eq!(read(&(joined.clone() + "*")), Reply::Count(256));
-    assert_eq!(read(&(joined.clone() + "**")), refused(16, 0));
-    assert_eq!(read(&(joined + "|v")), refused(16, 0));
+    assert_eq!(read(&(joined.clone() + "|v")), refused(16, 0));
+    assert_eq!(read(&(joined.clone() + "**")), refused(19, joined.len() + 1));
     for (unit, joint) in [("v", "/"), ("v", "|")] {
         assert_eq!(read(&[unit; 32].join(joint)), Reply::Count(63));
         assert_eq!(read(&[unit; 33].join(joint)), refused(16, 0));
     }
-    assert_eq!(read(&("v".to_string() + &"*".repeat(31))), Reply::Count(32));
-    assert_eq!(read(&("v".to_string() + &"*".repeat(32))), refused(16, 0));
+    let starred = |stars: usize| "(".repeat(stars - 1) + "v" + &"*)".repeat(stars - 1) + "*";
+    assert_eq!(read(&starred(31)), Reply::Count(32));
+    assert_eq!(read(&starred(32)), refused(16, 0));
+    assert_eq!(read(&("v".to_string() + &"*".repeat(32))), refused(19, 2));
     assert_eq!(read(&format!("[{}t]", "!".repeat(30))), Reply::Count(32));
     assert_eq!(read(&format!("[{}t]", "!".repeat(31))), refused(16, 0));
     for joint in ["+", "&"] {

@@ -162,7 +162,8 @@ fn the_three_lines_and_the_worked_cases() {
         ("v v", "R 14 1"),
         ("", "R 13 0"),
         ("[#64]", "A 0"),
-        ("v**", "A 8 0 1 2 3 4 5 6 7"),
+        ("v**", "R 19 2"),
+        ("(v*)*", "A 8 0 1 2 3 4 5 6 7"),
     ];
     for (text, line) in cases {
         assert_eq!(folder.drawn(format!("{text}\n").as_bytes()), format!("{line}\n"), "{text}");
@@ -218,8 +219,8 @@ fn lines_may_be_of_any_bytes_and_any_length() {
     let folder = Folder::new("any_bytes", &Files::worked());
     assert_eq!(folder.drawn(b"v\r\n\xFF\xFE\n\0\nv \n"), "R 14 1\nR 14 0\nR 14 0\nR 14 1\n");
     for length in [1024, 1025, 1026, 2048, 4096, 65_535, 65_536, 65_537, 70_000, 131_072, 1_000_000] {
-        // In the grammar, as far as its length goes: the stars of one item, and a table that is too large.
-        let long = [b"v".to_vec(), b"*".repeat(length - 1)].concat();
+        // A text, as far as its length goes: as many times "not", and a table that is too large.
+        let long = [b"[", &b"!".repeat(length - 3)[..], b"t]"].concat();
         let refused = if length <= 1024 { "R 16 0" } else { "R 13 0" };
         for sizes in [&[1 << 20][..], &[1000], &[1025, 1, 7]] {
             let input = [b"v\n", &long[..], b"\n.\n", &long, b"\n\nv/v"].concat();
