@@ -69,7 +69,14 @@ static struct reply put(unsigned call, const struct part *parts, struct part roo
 static int same(struct reply one, struct reply other) { return one.refusal == other.refusal && one.told == other.told; }
 
 /* The refusals that the list has for a call: bit n stands for number n. */
-static const uint32_t REFUSALS[PRINTING + 1] = {0, 0x3c, 0x1e002, 0x133e, 0xffe, 0x1fc2, 0x1ffe, 0, 0x41302};
+static const uint32_t REFUSALS[PRINTING + 1] = {0, 0x3c, 0x9e002, 0x133e, 0xffe, 0x1fc2, 0x1ffe, 0, 0x41302};
+
+/* The first star right behind a star, or the end of the text. */
+static size_t slip(struct part text) {
+    for (size_t place = 1; place < text.length; place++)
+        if (text.bytes[place - 1] == '*' && text.bytes[place] == '*') return place;
+    return text.length;
+}
 
 static int place_fits(uint64_t refusal, size_t place, const struct part *parts) {
     size_t records = parts[ANNOTATION].length / KEPOLAS_ANNOTATION_BYTES, entries = parts[QUERY].length / KEPOLAS_ENTRY_BYTES;
@@ -82,12 +89,13 @@ static int place_fits(uint64_t refusal, size_t place, const struct part *parts) 
         case KEPOLAS_QUERY_TABLE: return place == 0 || place + 1 == entries;
         case KEPOLAS_NOT_IN_GRAMMAR: return place <= parts[QUERY].length;
         case KEPOLAS_TOO_MANY_OPEN: return place < parts[QUERY].length && memchr("([{", parts[QUERY].bytes[place], 3) != NULL;
+        case KEPOLAS_TWO_STARS: return place < parts[QUERY].length && place == slip(parts[QUERY]);
         default: return place == 0;
     }
 }
 
 static void hold_refusal(unsigned call, struct reply reply, const struct part *parts, struct part room) {
-    hold(reply.refusal < 19 && (REFUSALS[call] >> reply.refusal & 1), "a call refuses by the numbers that the list has for it");
+    hold(reply.refusal < 20 && (REFUSALS[call] >> reply.refusal & 1), "a call refuses by the numbers that the list has for it");
     hold(place_fits(reply.refusal, reply.told, parts), "the place of a refusal lies in what is refused");
     hold(untouched_from(room, 0), "a refused call changes no byte of the room");
 }
@@ -216,10 +224,19 @@ static void hold_printed_back(struct part table, size_t length) {
     free(text.bytes);
 }
 
+/* A text with two stars in a row is refused by 19, or by 14 or 15 at a place before. Where there are none, 19 is not in place. */
+static void hold_slip(struct reply reply, struct part text) {
+    size_t first = slip(text);
+    if (first == text.length || reply.refusal == KEPOLAS_SHORT_ROOM || reply.refusal == KEPOLAS_TEXT_LENGTH) return;
+    int before = (reply.refusal == KEPOLAS_NOT_IN_GRAMMAR || reply.refusal == KEPOLAS_TOO_MANY_OPEN) && reply.told < first;
+    hold(before || reply.refusal == KEPOLAS_TWO_STARS, "two stars in a row are refused, where reading comes so far");
+}
+
 /* A text is too short or too long exactly by its length; one that is read gives a table that a curator may ask, and that is printed. */
 static void hold_text(struct reply reply, const struct part *parts, struct part room) {
     size_t length = parts[QUERY].length;
     hold((reply.refusal == KEPOLAS_TEXT_LENGTH) == (length == 0 || length > KEPOLAS_TEXT_LIMIT), "13 is given exactly by the length");
+    hold_slip(reply, parts[QUERY]);
     if (reply.refusal != 0) return;
     struct part table = {room.bytes, KEPOLAS_ENTRY_BYTES * reply.told};
     hold(rewritten_alone(table).refusal == 0, "what call 2 writes is a table for a curator");

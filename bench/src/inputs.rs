@@ -73,7 +73,7 @@ fn shapes(bytes: usize) -> Vec<(&'static str, Vec<u8>)> {
     vec![
         ("sequences", longest(&["v"; 16].join("/"), "|", bytes)),
         ("labels", longest(&["[#64&#10+#7]"; 4].join("/"), "|", bytes)),
-        ("stars", longest(&format!("v{}", "*".repeat(15)), "|", bytes)),
+        ("stars, 15 upon one another", longest(&format!("{}*", nested("(", "*)", 14)), "|", bytes)),
         ("round brackets, 32 deep", longest(&nested("(", ")", 32), "|", bytes)),
         ("square brackets, 7 deep", longest(&nested("[", "]", 7), "|", bytes)),
         ("curly brackets, 32 deep", longest(&format!("[{}]", nested("{", "}", 31)), "|", bytes)),
@@ -105,7 +105,8 @@ pub fn reading_texts() {
     }
     println!("the slowest of these: {slowest:.2} of the second program's time");
     head("reading a text that is refused", "bytes");
-    let refused = [["v"; 512].join("/"), "(".repeat(1024), format!("{}/", ["v"; 512].join("|"))];
+    let starred = format!("v{}", "*".repeat(1023));
+    let refused = [["v"; 512].join("/"), "(".repeat(1024), format!("{}/", ["v"; 512].join("|")), starred];
     for text in refused {
         line(&format!("{}..", &text[..8]), text.len(), read(text.as_bytes()), time_reading(text.as_bytes()));
     }

@@ -68,7 +68,7 @@ pub fn printed() -> Vec<Query> {
         of_lengths("steps, `v/^/>/<`", |bytes, _| repeated_twice("v/^/>/<", bytes)),
         of_lengths("brackets, `v/(v/(..))`", |bytes, nested| repeated(bracketed(child(), nested - 1), bytes)),
         of_lengths("filters, `[{#7+v}&!{t&f}]`", |bytes, _| repeated_twice("[{#7+v}&!{t&f}]", bytes)),
-        of_lengths("stars, `v***************`", |bytes, _| repeated_twice("v***************", bytes)),
+        of_lengths("stars, `((v*)*)*`", |bytes, _| repeated_twice("((v*)*)*", bytes)),
         vec![("`v`, doubled 8 times", low), ("the same in 23 brackets", high)],
     ]
     .concat()

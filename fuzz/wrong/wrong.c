@@ -30,14 +30,16 @@ uint64_t __wrap_kepolas_check_roll(const uint8_t *roll, size_t roll_len, size_t 
 }
 
 /* 3: a refused text is written. 4: the place of a refusal is one too high. 5: the table is told one entry longer, and is no table. 17: a
- * text is refused by a number for tables. 20: a text is refused for its length, though it
- * has none that is too short or too long. */
+ * text is refused by a number for tables. 20: a text is refused for its length, though it has none that is too short or too long. 36: two
+ * stars in a row are refused at the first of them. 37: the second is refused as if it were out of place. */
 uint64_t __wrap_kepolas_read_text(const uint8_t *text, size_t text_len, uint8_t *room, size_t room_len, size_t *told) {
     uint64_t refusal = __real_kepolas_read_text(text, text_len, room, room_len, told);
     if (mistake(3) && refusal != 0 && room_len > 0) room[0] ^= 1;
     if (mistake(4) && refusal != 0) ++*told;
     if (mistake(5) && refusal == 0) ++*told;
     if (mistake(20) && refusal == KEPOLAS_NOT_IN_GRAMMAR) return *told = 0, KEPOLAS_TEXT_LENGTH;
+    if (mistake(36) && refusal == KEPOLAS_TWO_STARS) --*told;
+    if (mistake(37) && refusal == KEPOLAS_TWO_STARS) return KEPOLAS_NOT_IN_GRAMMAR;
     return mistake(17) && refusal == KEPOLAS_NOT_IN_GRAMMAR ? KEPOLAS_ENTRY_MALFORMED : refusal;
 }
 
