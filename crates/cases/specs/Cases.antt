@@ -1,4 +1,5 @@
--- "Cases marked P are the proved ones": the list of them, and what each of them says of the definitions and of the calls' promises.
+-- "Cases marked P are the proved ones": the list of them, with the case that Q-2 has changed, and what each of them says of the definitions
+-- and of the calls' promises.
 use Prim.Native.Nat.{ℕ, _+_, _-_, _≤_, _<_}
 use Prim.Native.Char.{code}
 use Prim.Native.String.{String, [] as nil, _∷_ as _::_}
@@ -129,4 +130,5 @@ cases =
     ∷ on-roll (ascii "v/[!v/[#4]]") []
     ∷ refused (ascii "v/") 14 2
     ∷ refused (ascii "[#65]") 14 3
+    ∷ refused (ascii "v**") 19 2
     ∷ []
