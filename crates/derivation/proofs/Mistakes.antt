@@ -4,7 +4,7 @@ use native.Mathlib.Decide.{decLt}
 use native.Mathlib.Omega.{arith}
 use mathlib.Core.Path.{_≡_}
 use mathlib.Core.Logic.{_⊎_, ⊎-elim, inl, inr}
-use lib.ListN.{length, List·getD-eq-default}
+use lib.ListN.{length, getD, List·getD-eq-default}
 use Rattle.reply.specs.Bytes.{Bytes}
 use Rattle.query.specs.Syntax.{Path}
 use Rattle.text.specs.Grammar.{PathText}
@@ -20,14 +20,18 @@ pub record Clear (text : Bytes) (i : ℕ) : Type 0 where
 abbrev pub PlainBelow : Bytes → ℕ → Type 0
 PlainBelow text i = (k : ℕ) → k < i → ¬ StarBehindStar text k
 
+-- a star is in the text
+pub star-in : (text : Bytes) (i : ℕ) → getD text i 0 ≡ 42 → i < length text
+star-in text i e = go (decLt i (length text))
+  where
+    go : Dec (i < length text) → i < length text
+    go (yes l) = l
+    go (no l) = let none = List·getD-eq-default text 0 {n = i} (omega arith) in absurd (omega (arith, e, none))
+
 module _ {text : Bytes} where
-  -- a star right behind a star is in the text
+  -- and so is one right behind a star
   pub star-within : {k : ℕ} → StarBehindStar text k → k < length text
-  star-within (behind {i = i} e f) = go (decLt (suc i) (length text))
-    where
-      go : Dec (suc i < length text) → suc i < length text
-      go (yes l) = l
-      go (no l) = let none = List·getD-eq-default text 0 {n = suc i} (omega arith) in absurd (omega (arith, f, none))
+  star-within (behind {i = i} e f) = star-in text (suc i) f
 
   -- a text breaks no earlier than elsewhere
   not-earlier : {i j : ℕ} → Breaks text i → Breaks text j → ¬ (i < j)

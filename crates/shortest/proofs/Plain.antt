@@ -6,23 +6,16 @@ use mathlib.Core.Path.{_≡_, refl, sym, ap, _∙_}
 use mathlib.Core.Bool.{Bool, true, false, cond}
 use mathlib.Core.List.{[], _∷_, _++_}
 use lib.Dec.{leb}
-use lib.ListN.{length, getD, List·getD-append, List·getD-eq-default, length-append}
+use lib.ListN.{length, getD, List·getD-append, length-append}
 use lib.Seq.{getD-append-add, getD-at}
 use Rattle.reply.specs.Bytes.{Bytes}
 use Rattle.text.specs.Promise.{StarBehindStar, behind}
+use Rattle.derivation.proofs.Mistakes.{star-in}
 use Rattle.shortest.proofs.Shown.{between, held}
 
 -- no star stands right behind a star
 abbrev pub Plain : Bytes → Type 0
 Plain s = (k : ℕ) → ¬ StarBehindStar s k
-
--- a star is in the text
-star-within : (s : Bytes) (i : ℕ) → getD s i 0 ≡ 42 → i < length s
-star-within s i e = go (decLt i (length s))
-  where
-    go : Dec (i < length s) → i < length s
-    go (yes l) = l
-    go (no l) = let none = List·getD-eq-default s 0 {n = i} (omega arith) in absurd (omega (arith, e, none))
 
 -- the last byte is a star
 abbrev pub EndsInStar : Bytes → Type 0
@@ -33,8 +26,8 @@ module _ (s u : Bytes) where
   -- the front of a plain text is plain
   pub plain-front : Plain (s ++ u) → Plain s
   plain-front plain k (behind {i = i} e f) =
-      let first = List·getD-append s u 0 i (star-within s i e) in
-      let second = List·getD-append s u 0 (suc i) (star-within s (suc i) f) in
+      let first = List·getD-append s u 0 i (star-in s i e) in
+      let second = List·getD-append s u 0 (suc i) (star-in s (suc i) f) in
       plain (suc i) (behind (first ∙ e) (second ∙ f))
 
   -- so is what is behind it
@@ -69,15 +62,15 @@ module _ (s u : Bytes) where
 
 -- no byte is plain, and one
 pub plain-nothing : Plain []
-plain-nothing k (behind {i = i} e f) = let l = star-within [] i e in omega arith
+plain-nothing k (behind {i = i} e f) = let l = star-in [] i e in omega arith
 
 pub plain-byte : (c : ℕ) → Plain (c ∷ [])
-plain-byte c k (behind {i = i} e f) = let l = star-within (c ∷ []) (suc i) f in omega arith
+plain-byte c k (behind {i = i} e f) = let l = star-in (c ∷ []) (suc i) f in omega arith
 
 -- a star is behind no star
 pub starred-open : (s : Bytes) → Plain (s ++ 42 ∷ []) → ¬ EndsInStar s
 starred-open s plain e =
-    let l = star-within s (length s - 1) e in
+    let l = star-in s (length s - 1) e in
     let end : length s ≡ suc (length s - 1) = omega arith in
     let first = List·getD-append s (42 ∷ []) 0 (length s - 1) l in
     plain (suc (length s - 1)) (behind (first ∙ e) (getD-at s 42 [] 0 (suc (length s - 1)) end))
