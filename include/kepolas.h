@@ -89,7 +89,8 @@ uint64_t kepolas_curators_answer(const uint8_t *roll, size_t roll_len, const uin
  * among them. A bad roll or a record that is not in it gives 0 and 0. */
 void kepolas_run_of(const uint8_t *roll, size_t roll_len, size_t k, size_t *start, size_t *end);
 
-/* Printing: writes a curator's query table as text, with the fewest brackets that keep its grouping. Counts the bytes written. */
+/* Printing: writes a curator's query table as text, with the fewest brackets that keep its grouping and its stars apart. Counts the bytes
+ * written. */
 uint64_t kepolas_print_query(const uint8_t *query, size_t query_len, uint8_t *room, size_t room_len, size_t *told);
 
 #ifdef __cplusplus

@@ -142,7 +142,8 @@ impl Table {
         self
     }
 
-    /// The same with runs of steps joined to its last entry, a path, until its text, which has so many bytes, has as many as wanted.
+    /// The same with runs of steps and filters joined to its last entry, a path, until its text, which has so many bytes, has as many as
+    /// wanted, which must be more.
     pub fn lengthened(mut self, chance: &mut Chance, bytes: usize, wanted: usize) -> Table {
         let (mut last, mut missing) = (self.len() - 1, wanted - bytes);
         let items = self.items(chance);

@@ -78,7 +78,7 @@ fn hold_fewest(by_table: HashMap<Vec<u8>, Vec<Vec<u8>>>) -> (usize, usize) {
     (by_table.len(), by_table.values().map(Vec::len).sum())
 }
 
-/// There are as many texts as the lines of the grammar give, counted by length.
+/// There are as many texts as the lines of the grammar give, counted by length, with at most one star behind an atom.
 #[test]
 fn no_text_of_up_to_seven_bytes_has_as_few_brackets() {
     assert_eq!(hold_fewest(texts_by_table(BYTES, 4)), (195, 210));

@@ -513,7 +513,7 @@ fn two_stars_in_a_row_are_refused_at_the_second() {
     assert_eq!(reply(b"[v**]"), refused(19, 3));
     assert_eq!(query("(v*)*"), table(&[entry(2, 0, 0, 0), entry(9, 0, 0, 0), entry(9, 0, 1, 0)]));
     assert_eq!(query("((v*))*"), query("(v*)*"));
-    // A star at the beginning or behind a star is out of place before it is a slip.
+    // Where the first of the two is out of place, 14 is given there.
     assert_eq!(reply(b"**"), refused(14, 0));
     assert_eq!(reply(b"(v)/**"), refused(14, 4));
     assert_eq!(reply(b"[t**]"), refused(14, 2));

@@ -1,4 +1,4 @@
--- The text of a path with brackets only where the grouping needs them, and that of a filter. Assumes nothing.
+-- The text of a path with brackets only where the grouping needs them and between two stars, and that of a filter. Assumes nothing.
 use Prim.Native.Nat.{ℕ, _+_, _/_, _%_}
 use Prim.Native.Char.{code}
 use mathlib.Core.Bool.{cond}

@@ -1,5 +1,5 @@
--- What printing a table promises: of the texts of its path, the one with the fewest brackets, in front of the room. And what comes of
--- printing and reading.
+-- What printing a table promises: of the texts of its path in which no star stands right behind a star, the one with the fewest brackets,
+-- in front of the room. And what comes of printing and reading.
 use Prim.Native.Nat.{ℕ, _*_, _≤_, _<_}
 use mathlib.Core.Path.{_≡_}
 use lib.ListN.{length, take}
