@@ -275,10 +275,10 @@ pub fn run_of(roll: &[u8], record: usize) -> &[u8] {
 }
 
 /// Printing: writes a curator's query table (to 256 entries, height 32) as text, with the fewest brackets that keep its
-/// grouping and its stars apart, and gives the number of bytes. Bytes of the room behind them stay as they were. A table that [`read_text`]
-/// wrote is always printed, and its text is read as the same bytes. The text of any other is read as a query with the same
-/// answers on every roll, or refused with [`TableTooLarge`](Reason::TableTooLarge), since it has written out what the table
-/// shares.
+/// grouping and its stars apart, and gives the number of bytes. Bytes of the room behind them stay as they were. A table
+/// that [`read_text`] wrote is always printed, and its text is read as the same bytes. The text of any other is read as a
+/// query with the same answers on every roll, or refused with [`TableTooLarge`](Reason::TableTooLarge), since it has written
+/// out what the table shares.
 ///
 /// Refuses with [`ShortRoom`](Reason::ShortRoom) where the room is shorter than [`rooms::TEXT`]; then as
 /// [`answer_on_roll`] for the query, with the limits of a curator's query; then with
