@@ -51,7 +51,7 @@ pub record OneTooMany (text : Bytes) (i : ℕ) : Type 0 where
   pub bracket : T (opening (getD text i 0))
   pub already : howMany opening (take i text) ≡ howMany closing (take i text) + 32
 
--- 19, "the first star right behind a star"
+-- 19: at this place stands a "star right behind a star"
 pub data StarBehindStar (text : Bytes) : ℕ → Type 0 where
   behind : {i : ℕ} → getD text i 0 ≡ code "*" → getD text (suc i) 0 ≡ code "*" → StarBehindStar text (suc i)
 

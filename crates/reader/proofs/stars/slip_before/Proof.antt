@@ -1,12 +1,9 @@
 -- `slip_before`: each turn looks at one more star and at the byte before it. Assumes nothing.
-use Prim.Native.Nat.{ℕ, suc, _+_, _-_, _≤_, _<_}
+use Prim.Native.Nat.{_-_, _≤_}
 use native.Mathlib.Omega.{arith}
-use mathlib.Core.Path.{_≡_, refl, sym, _∙_}
 use mathlib.Core.Logic.{⊎-elim}
-use lib.ListN.{length, getD}
 use borrow.Author.Count.{below-more}
 use borrow.Author.Needs.{needs}
-use Rattle.reply.specs.Bytes.{Bytes}
 use Rattle.derivation.proofs.Mistakes.{PlainBelow}
 use Rattle.reader.proofs.Slips.{star-at, star-bytes, none-first}
 use Rattle.reader.proofs.stars.slip_before.Statement.{statement}
