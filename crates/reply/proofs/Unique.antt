@@ -7,7 +7,7 @@ use mathlib.Core.Logic.{_≢_}
 use mathlib.Core.List.{[], _∷_, _++_}
 use lib.ListN.{length, getD, drop}
 use Rattle.reply.specs.declared.Reason.{Reason}
-use Rattle.reply.specs.declared.Reason.the-variants.{ShortRoom, RollLength, NodeLabel, SecondByte, ParentField, AnnotationLength, FilterLength, EntryMalformed, EntryHeight, AnnotationRecord, PairOrder, QueryTable, TextLength, NotInGrammar, TooManyOpen, TableTooLarge, FileUnreadable, TextTooLong, TwoStars}
+use Rattle.reply.specs.declared.Reason.the-variants.{ShortRoom, RollLength, NodeLabel, SecondByte, ParentField, AnnotationLength, FilterLength, EntryMalformed, EntryHeight, AnnotationRecord, PairOrder, QueryTable, TextLength, NotInGrammar, TooManyOpen, TableTooLarge, FileUnreadable, TextTooLong, TwoStars, RulesMalformed, ChildrenForbidden}
 use Rattle.reply.specs.declared.Refusal.{Refusal}
 use Rattle.reply.specs.declared.Reply.{Reply}
 use Rattle.reply.specs.declared.Reply.the-variants.{Count, Refused}
@@ -68,7 +68,7 @@ checked-one wrong one x y = outcome-one wrong one (λ right c d x y e f. (e .0 �
 
 -- the reason that a number stands for
 reasonOf : ℕ → Reason
-reasonOf n = getD (ShortRoom ∷ RollLength ∷ NodeLabel ∷ SecondByte ∷ ParentField ∷ AnnotationLength ∷ FilterLength ∷ EntryMalformed ∷ EntryHeight ∷ AnnotationRecord ∷ PairOrder ∷ QueryTable ∷ TextLength ∷ NotInGrammar ∷ TooManyOpen ∷ TableTooLarge ∷ FileUnreadable ∷ TextTooLong ∷ TwoStars ∷ []) (pred n) ShortRoom
+reasonOf n = getD (ShortRoom ∷ RollLength ∷ NodeLabel ∷ SecondByte ∷ ParentField ∷ AnnotationLength ∷ FilterLength ∷ EntryMalformed ∷ EntryHeight ∷ AnnotationRecord ∷ PairOrder ∷ QueryTable ∷ TextLength ∷ NotInGrammar ∷ TooManyOpen ∷ TableTooLarge ∷ FileUnreadable ∷ TextTooLong ∷ TwoStars ∷ RulesMalformed ∷ ChildrenForbidden ∷ []) (pred n) ShortRoom
 
 reason-of : (r : Reason) → reasonOf (number r) ≡ r
 unfolding reasonOf
@@ -91,6 +91,8 @@ reason-of TableTooLarge = refl
 reason-of FileUnreadable = refl
 reason-of TextTooLong = refl
 reason-of TwoStars = refl
+reason-of RulesMalformed = refl
+reason-of ChildrenForbidden = refl
 
 -- no reason has the number 0: it would be the first one, which has 1
 pub no-reason : (r : Reason) → number r ≢ 0

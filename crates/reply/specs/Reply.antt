@@ -2,7 +2,7 @@
 -- What each case of the reply's enum stands for: this list, and no other, says which number a reason has.
 use Prim.Native.Nat.{ℕ}
 use Rattle.reply.specs.declared.Reason.{Reason}
-use Rattle.reply.specs.declared.Reason.the-variants.{ShortRoom, RollLength, NodeLabel, SecondByte, ParentField, AnnotationLength, FilterLength, EntryMalformed, EntryHeight, AnnotationRecord, PairOrder, QueryTable, TextLength, NotInGrammar, TooManyOpen, TableTooLarge, FileUnreadable, TextTooLong, TwoStars}
+use Rattle.reply.specs.declared.Reason.the-variants.{ShortRoom, RollLength, NodeLabel, SecondByte, ParentField, AnnotationLength, FilterLength, EntryMalformed, EntryHeight, AnnotationRecord, PairOrder, QueryTable, TextLength, NotInGrammar, TooManyOpen, TableTooLarge, FileUnreadable, TextTooLong, TwoStars, RulesMalformed, ChildrenForbidden}
 use Rattle.reply.specs.declared.Reply.{Reply}
 use Rattle.reply.specs.declared.Reply.the-variants.{Count, Refused}
 
@@ -27,6 +27,8 @@ number TableTooLarge = 16
 number FileUnreadable = 17
 number TextTooLong = 18
 number TwoStars = 19
+number RulesMalformed = 20
+number ChildrenForbidden = 21
 
 -- What a reply says.
 pub data Said : Type 0 where

@@ -9,11 +9,14 @@ pub use limits::CURATOR_ENTRIES;
 pub use limits::CURATOR_HEIGHT;
 pub use limits::FILTER_ENTRIES;
 pub use limits::FILTER_HEIGHT;
+pub use limits::LISTED;
 pub use limits::NO_PARENT;
 pub use limits::NODES;
 pub use limits::OPEN_BRACKETS;
 pub use limits::RECORDS;
 pub use limits::REWRITTEN_ROOM;
+pub use limits::RULE_ENTRIES;
+pub use limits::RULE_HEIGHT;
 pub use limits::TABLE_ROOM;
 pub use limits::TEXT_BYTES;
 ghost use mathlib.Core.Path.{_≡_};
@@ -44,6 +47,8 @@ pub enum Reason {
     FileUnreadable,
     TextTooLong,
     TwoStars,
+    RulesMalformed,
+    ChildrenForbidden,
 }
 
 pub struct Refusal {
@@ -87,6 +92,8 @@ pub fn number_of(reason: Reason) -> u64
         Reason::FileUnreadable => 17,
         Reason::TextTooLong => 18,
         Reason::TwoStars => 19,
+        Reason::RulesMalformed => 20,
+        Reason::ChildrenForbidden => 21,
     }
 }
 

@@ -22,6 +22,13 @@ pub const ANSWER_ENTRIES: usize = 1024;
 
 pub const ANSWER_HEIGHT: u16 = 128;
 
+// Rule entries: "at most 256, height at most 32"; and "at most 64" list records.
+pub const RULE_ENTRIES: usize = 256;
+
+pub const RULE_HEIGHT: u16 = 32;
+
+pub const LISTED: usize = 64;
+
 // "ASCII, 1 to 1,024 bytes"; and the room of a text that is printed, "1,024 bytes"
 pub const TEXT_BYTES: usize = 1024;
 

@@ -1,0 +1,4 @@
+pub mod Tried
+pub mod Standing
+pub mod Unique
+pub mod Words

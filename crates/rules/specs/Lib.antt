@@ -1,0 +1,4 @@
+pub mod Language
+pub mod Table
+pub mod Rules
+pub mod Promise
