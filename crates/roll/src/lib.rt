@@ -13,3 +13,4 @@ pub use previous::previous_of;
 pub use run::end_of;
 pub use run::run_of;
 pub use scan::check_roll;
+pub use scan::second_fits;

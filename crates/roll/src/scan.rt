@@ -41,7 +41,7 @@ fn label_fits(roll: &[u8], i: usize) -> bool
     is_label(label_at(roll, i))
 }
 
-fn second_fits(roll: &[u8], i: usize) -> bool
+pub fn second_fits(roll: &[u8], i: usize) -> bool
     requires { ⌜ i < length (nodes (now roll)) ⌝ }
     ensures { λ r. ⌜ T r ↔ (secondByte (now (roll .entry)) i ≡ 0) ⌝ }
 {

@@ -13,7 +13,7 @@ use lib.Dec.{T, eqb, lit<}
 use lib.Count as Count
 use lib.Count.{ones-step, ones-le}
 use Rattle.tree.proofs.Tests.{Decides, equal-test, same-test, decided}
-use Rattle.query.proofs.Sets.{has, tabulate, length-tabulate, has-tabulate, has-inside, size, size-bound, part-whole}
+use Rattle.query.proofs.Sets.{has, tabulate, length-tabulate, has-tabulate, has-inside, size, size-bound, part-size, part-whole}
 use Rattle.sets.specs.Bits.{digit, bitOf, ones}
 use Rattle.sets.specs.Sets.{In}
 use Rattle.sets.proofs.Digits.{digit-below, digit-zero, digit-suc}
@@ -104,7 +104,7 @@ same-ones v w p q a b fits fits′ long same =
 -- ---- the size of a set
 
 -- membership has a test
-in-test : (set : List ℕ) (k : ℕ) → Decides (eqb (bitOf 64 set k) 1) (In set k)
+pub in-test : (set : List ℕ) (k : ℕ) → Decides (eqb (bitOf 64 set k) 1) (In set k)
 in-test set k = same-test (equal-test (bitOf 64 set k) 1) (λ e. record { one = e }, λ m. m .one)
 
 pub dec-in : (set : List ℕ) (k : ℕ) → Dec (In set k)
@@ -126,6 +126,12 @@ length-table : (set : List ℕ) → length (table set) ≡ 4096
 unfolding table
 length-table set = length-tabulate 4096 (λ k. eqb (bitOf 64 set k) 1)
 
+-- the table of a part of a set is a part of the set's
+part-table : {a r : List ℕ} → ((k : ℕ) → In a k → In r k) → (k : ℕ) → T (has (table a) k) → T (has (table r) k)
+part-table {a} {r} part k x =
+    let low : k < 4096 = subst (λ (n : ℕ). k < n) (length-table a) (has-inside (table a) k x) in
+    has-table r k low .1 (part k (has-table a k low .0 x))
+
 pub size-most : (set : List ℕ) → sizeOf set ≤ 4096
 unfolding sizeOf
 size-most set = le-trans (size-bound (table set)) (le-of-eq (length-table set))
@@ -135,19 +141,19 @@ pub ones-size : (set : List ℕ) → length set ≡ 64 → ((j : ℕ) → getD s
 unfolding sizeOf
 ones-size set e fits = ones-bits 64 (lit< tt) set fits ∙ ap (λ (n : ℕ). size (tabulate n (λ k. eqb (bitOf 64 set k) 1))) (omega arith)
 
+-- a set with all the members of another is no smaller
+pub no-smaller : {a r : List ℕ} → ((k : ℕ) → In a k → In r k) → sizeOf a ≤ sizeOf r
+unfolding sizeOf
+no-smaller {a} {r} part = part-size (table a) (table r) (part-table part)
+
 -- a set with all the members of another and one more has the greater size
 pub grown : {a r : List ℕ} → ((k : ℕ) → In a k → In r k) → ¬ ((k : ℕ) → k < 4096 → In r k → In a k) → sizeOf a < sizeOf r
 unfolding sizeOf
 grown {a} {r} part new =
     lt-of-not-le (λ l. new (λ k low m. has-table a k low .0 (subst (λ (s : List Bool). T (has s k)) (sym (same l)) (has-table r k low .1 m))))
   where
-    inside : (k : ℕ) → T (has (table a) k) → k < 4096
-    inside k x = subst (λ (n : ℕ). k < n) (length-table a) (has-inside (table a) k x)
-
     same : size (table r) ≤ size (table a) → table a ≡ table r
-    same l =
-        part-whole (table a) (table r) (length-table a ∙ sym (length-table r))
-        (λ k x. has-table r k (inside k x) .1 (part k (has-table a k (inside k x) .0 x))) l
+    same = part-whole (table a) (table r) (length-table a ∙ sym (length-table r)) (part-table part)
 
 -- the bytes of a set have its ones
 pub bytes-ones : (set bytes : List ℕ) → length set ≡ 64 → length bytes ≡ 512

@@ -1,7 +1,7 @@
 -- Sets by their words: a loop that makes one word after the other makes the set. Assumes nothing.
 use Prim.Native.Nat.{ℕ, zero, suc, _+_, _*_, _/_, _%_, _^_, _≤_, _<_}
 use native.Mathlib.Nat.{mul-comm, div-add-mod, div-lt-iff-lt-mul, le-div-iff-mul-le, mod-lt, le-refl, lt-of-not-le}
-use native.Mathlib.Decide.{ℕ-discrete}
+use native.Mathlib.Decide.{ℕ-discrete, decLt}
 use native.Mathlib.Numerals.{add-one}
 use native.Mathlib.Omega.{arith}
 use mathlib.Core.Path.{_≡_, refl, sym, ap, ap₂, subst, _∙_}
@@ -20,7 +20,7 @@ use Rattle.sets.specs.Bits.{digit, bitOf, ones}
 use Rattle.sets.specs.declared.merge.Merge.{Merge}
 use Rattle.sets.specs.declared.merge.Merge.the-variants.{Either, Both, First}
 use Rattle.sets.specs.Sets.{In, Holds, Inside}
-use Rattle.sets.specs.Merge.{Kept}
+use Rattle.sets.specs.Merge.{Kept, Front}
 use Rattle.sets.proofs.Digits.{same-digit, digit-mod, digit-shr, zero-digit, none-of-zero, not-one, digits-none}
 use Rattle.sets.proofs.Digits.{or-none, put-in}
 
@@ -153,14 +153,23 @@ kept-same Both f g = Iff·and f g
 kept-same First f g = Iff·and f (Iff·not g)
 
 module _ (how : Merge) (a b : List ℕ) where
-  -- what is kept of 64 words is below 4096
-  pub kept-below : length a ≡ 64 → length b ≡ 64 → (k : ℕ) → Kept how (In a k) (In b k) → k < 4096
-  kept-below e f k = below how
+  -- what is kept of sets below n is below n
+  pub kept-below : (n : ℕ) → Inside n a → Inside n b → (k : ℕ) → Kept how (In a k) (In b k) → k < n
+  kept-below n in-a in-b k = below how
     where
-      below : (how : Merge) → Kept how (In a k) (In b k) → k < 4096
-      below Either m = ⊎-elim (in-below a e k) (in-below b f k) m
-      below Both (m, _) = in-below a e k m
-      below First (m, _) = in-below a e k m
+      below : (how : Merge) → Kept how (In a k) (In b k) → k < n
+      below Either m = ⊎-elim (in-a k) (in-b k) m
+      below Both (m, _) = in-a k m
+      below First (m, _) = in-a k m
+
+  -- behind the first n, what is kept is what stands in the first set
+  pub kept-behind : (n : ℕ) → Front how n a b → (k : ℕ) → n ≤ k → In a k ↔ Kept how (In a k) (In b k)
+  kept-behind n front k l = behind how front
+    where
+      behind : (how : Merge) → Front how n a b → In a k ↔ Kept how (In a k) (In b k)
+      behind Either in-b = (inl, ⊎-elim (λ x. x) (λ y. absurd (omega (arith, in-b k y))))
+      behind Both in-a = (λ x. absurd (omega (arith, in-a k x)), λ (x, _). x)
+      behind First in-a = (λ x. absurd (omega (arith, in-a k x)), λ (x, _). x)
 
   -- a turn of the loop, which makes word i of the two that stand there
   pub one-merged : (v : ℕ) {words : List ℕ} {i : ℕ} → Made 64 (λ k. Kept how (In a k) (In b k)) a words i → i < length a
@@ -170,10 +179,27 @@ module _ (how : Merge) (a b : List ℕ) where
     exact = λ k h. Iff·trans (rw (m .rest i (le-refl i)) at (new k)) (kept-same how (in-word a i k h) (in-word b i k h));
   })
 
--- after the last turn the words are the set
+-- where the others are right as they stand, the words are the set
+pub front-made : {P : ℕ → Type 0} {before words : List ℕ} {i : ℕ} (n : ℕ) → Made 64 P before words i → length before ≡ 64
+    → n ≤ 64 * i → ((k : ℕ) → n ≤ k → In before k ↔ P k) → ((k : ℕ) → P k → k < 4096) → Holds P words
+front-made {P} {before} {words} {i} n m e front right gets =
+    holds-words words (m .long ∙ e) gets (λ j h. word j (decLt j i))
+  where
+    word : (j : ℕ) → Dec (j < i) → Word 64 P j (getD words j 0)
+    word j (yes l) = m .made j l
+    word j (no past) = rw (m .rest j (omega arith)) (record {
+      exact = λ k h. Iff·trans (in-word before j k h) (right (64 * j + k) (omega arith));
+    })
+
+-- so they are where none of them had or gets a member
+pub none-above : {P : ℕ → Type 0} {before : List ℕ} (n : ℕ) → Inside n before → ((k : ℕ) → P k → k < n)
+    → (k : ℕ) → n ≤ k → In before k ↔ P k
+none-above n had gets k l = (λ x. absurd (omega (arith, had k x)), λ p. absurd (omega (arith, gets k p)))
+
+-- after the last turn there are no others
 pub all-made : {P : ℕ → Type 0} {before words : List ℕ} {i : ℕ} → Made 64 P before words i → length before ≡ 64 → 64 ≤ i
     → ((k : ℕ) → P k → k < 4096) → Holds P words
-all-made {words = words} m e l inside = holds-words words (m .long ∙ e) inside (λ j h. m .made j (omega arith))
+all-made {before = before} m e l gets = front-made 4096 m e (omega arith) (none-above 4096 (in-below before e) gets) gets
 
 -- and bytes that are made so have the bits of the set
 pub bytes-made : {set before bytes : List ℕ} {i : ℕ} → Made 8 (In set) before bytes i → length before ≡ 512 → 512 ≤ i
@@ -203,6 +229,13 @@ no-member set e fits = (
   λ none j l.
       digits-none 64 (getD set j 0) (fits j .fits)
       (λ k h. not-one (getD set j 0) k (λ o. none (64 * j + k) (in-word set j k h .0 o))),
+)
+
+-- nor has one that stands in its first word, where that word has no digit
+pub no-first : (set : List ℕ) → Inside 64 set → ((k : ℕ) → k < 64 → ¬ (digit (getD set 0 0) k ≡ 1)) ↔ ((k : ℕ) → ¬ In set k)
+no-first set front = (
+  λ none k m. let first : 64 * 0 + k ≡ k = omega arith in none k (front k m) (in-word set 0 k (front k m) .1 (rw first m)),
+  λ none k l d. none (64 * 0 + k) (in-word set 0 k l .0 d),
 )
 
 -- the ones of one word more

@@ -4,8 +4,8 @@ ghost use mathlib.Core.Logic.{_↔_};
 ghost use Prim.Native.Nat.{ℕ, _*_, _<_};
 ghost use lib.Dec.{T};
 ghost use lib.ListN.{length};
-ghost use Rattle.sets.specs.Bits.{ones};
-ghost use Rattle.sets.specs.Sets.{In};
+ghost use Rattle.sets.specs.Bits.{digit, ones};
+ghost use Rattle.sets.specs.Sets.{In, Inside};
 
 pub fn is_empty(a: [u64; 64]) -> bool
     ensures { λ r. ⌜ T r ↔ ((k : ℕ) → ¬ In a k) ⌝ }
@@ -17,6 +17,25 @@ pub fn is_empty(a: [u64; 64]) -> bool
         i += 1;
     }
     all == 0
+}
+
+// Whether a word has no member.
+fn is_zero(word: u64) -> bool
+    ensures { λ r. ⌜ T r ↔ ((k : ℕ) → k < 64 → ¬ (digit word k ≡ 1)) ⌝ }
+{
+    word == 0
+}
+
+// Whether a set is empty whose members all stand in the first so many words: where that is one word, no other is looked at.
+pub fn is_front_empty(set: &[u64; 64], words: usize) -> bool
+    requires { ⌜ Inside (64 * words) (now set) ⌝ }
+    ensures { λ r. ⌜ T r ↔ ((k : ℕ) → ¬ In (now (set .entry)) k) ⌝ }
+{
+    if words == 1 {
+        is_zero(set[0])
+    } else {
+        is_empty(*set)
+    }
 }
 
 // How many members a set has: the ones in its words.

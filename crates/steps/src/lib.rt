@@ -13,4 +13,6 @@ pub use axis::both;
 pub use axis::only;
 pub use axis::turned;
 pub use label::labelled;
+pub use reach::first_child;
+pub use reach::link_at;
 pub use star::closure;

@@ -16,7 +16,7 @@ ghost use Rattle.steps.specs.Axis.{Along, AlongAny};
 ghost use Rattle.steps.specs.Added.{Added, FirstChild, Leads};
 
 // A link as a number.
-fn link_at(links: &[u16; 8192], i: usize) -> usize
+pub fn link_at(links: &[u16; 8192], i: usize) -> usize
     requires { ⌜ i < 8192 ⌝ }
     ensures { λ r. ⌜ r ≡ getD (now (links .entry)) i 65535 ⌝ }
 {
@@ -25,7 +25,7 @@ fn link_at(links: &[u16; 8192], i: usize) -> usize
 }
 
 // The first child of i is the record behind i, if i is its parent.
-fn first_child(roll: &[u8], i: usize) -> usize
+pub fn first_child(roll: &[u8], i: usize) -> usize
     requires { ⌜ Roll (now roll) ⌝ }
     requires { ⌜ i < 4096 ⌝ }
     ensures { λ r. ⌜ Link (FirstChild (nodes (now (roll .entry)))) i r ⌝ }

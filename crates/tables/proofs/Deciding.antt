@@ -23,10 +23,10 @@ at-most-test : (m n : ℕ) → Decides (leb m n) (m ≤ n)
 at-most-test m n = record { exact = (leb→le m n, le→leb m n) }
 
 -- whole records within a limit, by the length
-pub whole-test : (limit : ℕ) (b : Bytes) → Decides (eqb (length b % 6) 0 && leb (length b) (6 * limit)) (Whole 6 limit b)
-whole-test limit b =
-    same-test (and-test (equal-test (length b % 6) 0) (at-most-test (length b) (6 * limit)))
-    (λ p. record { multiple = p .0; most = p .1 }, λ (h : Whole 6 limit b). (h .multiple, h .most))
+pub whole-test : (size limit : ℕ) (b : Bytes) → Decides (eqb (length b % size) 0 && leb (length b) (size * limit)) (Whole size limit b)
+whole-test size limit b =
+    same-test (and-test (equal-test (length b % size) 0) (at-most-test (length b) (size * limit)))
+    (λ p. record { multiple = p .0; most = p .1 }, λ (h : Whole size limit b). (h .multiple, h .most))
 
 -- the length of a query table: some entries, whole, within the limit
 pub length-test : {w : Bool} (limit : Limits) (b : Bytes) → Decides w (Whole 6 (limit .entries) b)

@@ -14,6 +14,13 @@ use Rattle.query.specs.Fault.{Limits, EntryFits, malformed, too-high}
 use Rattle.tables.specs.Promise.{EntriesChecked}
 use Rattle.tables.proofs.Heights.{height-known}
 
+-- a number that is noted in a list, behind those of the places before
+pub noted : (f : ℕ → ℕ) (xs : List ℕ) {i v : ℕ} → ((k : ℕ) → k < i → getD xs k 0 ≡ f k) → i < length xs → v ≡ f i
+    → (k : ℕ) → k < i + 1 → getD (set xs i v) k 0 ≡ f k
+noted f xs {i} {v} before room here =
+    below-more (λ k. getD (set xs i v) k 0 ≡ f k) i (λ k l. getD-set-other xs i k v 0 (omega arith) ∙ before k l)
+    (getD-set-same xs i v 0 room ∙ here)
+
 -- the first i entries are in order and at most `most` high, and their heights are known
 pub record Walked (es : Entries) (most : ℕ) (heights : List ℕ) (i : ℕ) : Type 0 where
   pub right : (k : ℕ) → k < i → EntryRight es k
@@ -37,10 +44,7 @@ module _ {es : Entries} {most : ℕ} {heights : List ℕ} {i : ℕ} (walked : Wa
       record {
         right = below-more (λ k. EntryRight es k) i (walked .right) right;
         low = below-more (λ k. heightAt es k ≤ most) i (walked .low) (omega (arith, height-here below found));
-        known =
-            below-more (λ k. getD (set heights i (below + 1)) k 0 ≡ heightAt es k) i
-            (λ k l. getD-set-other heights i k (below + 1) 0 (omega arith) ∙ walked .known k l)
-            (getD-set-same heights i (below + 1) 0 room ∙ sym (height-here below found));
+        known = noted (heightAt es) heights (walked .known) room (sym (height-here below found));
       }
 
 module _ (b : Bytes) {most : ℕ} {heights : List ℕ} {i : ℕ} (walked : Walked (entries b) most heights i) (limit : Limits)

@@ -7,7 +7,7 @@ use crate::entry::entry_at;
 use crate::kinds::NONE;
 use crate::kinds::shape_of;
 
-fn higher(left: u16, right: u16) -> u16
+pub fn higher(left: u16, right: u16) -> u16
     ensures { λ r. ⌜ r ≡ max left right ⌝ }
 {
     if left < right { right } else { left }

@@ -13,6 +13,7 @@ pub use entry::entry_at;
 pub use entry::kind_at;
 pub use entry::put;
 pub use entry::sort_at;
+pub use height::higher;
 pub use kinds::ALWAYS;
 pub use kinds::AND;
 pub use kinds::CHILD;

@@ -4,7 +4,7 @@ use native.Mathlib.Omega.{arith}
 use borrow.Author.Needs.{needs}
 use Rattle.sets.specs.Sets.{In}
 use Rattle.sets.specs.Merge.{Kept}
-use Rattle.sets.proofs.Words.{Made, none-made, one-merged, kept-below, all-made}
+use Rattle.sets.proofs.Words.{Made, none-made, one-merged, in-below, kept-below, all-made}
 use Rattle.sets.proofs.merge.merge_into.Statement.{statement}
 use Rattle.sets.proofs.merge.merge_into.Tie as tie
 
@@ -27,7 +27,7 @@ returns : tie.Need-returns Inv-loop μ-loop
 returns c =
     let args = c .before .before .before .before .args in
     all-made (c .before .loop .inv .1) (search needs) (c .loop-test .left)
-    (kept-below (args .how) (args .set .now) (args .other .now) (search needs) (search needs))
+    (kept-below (args .how) (args .set .now) (args .other .now) 4096 (in-below _ (search needs)) (in-below _ (search needs)))
 
 pub merge-into-spec : {M : Type 1} → statement M
 merge-into-spec =

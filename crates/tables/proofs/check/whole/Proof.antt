@@ -8,7 +8,7 @@ mul-result : tie.Need-mul-result
 mul-result c = search needs
 
 returns : tie.Need-returns
-returns c = whole-test (c .args .entries) (c .args .table .now) .exact
+returns c = whole-test 6 (c .args .entries) (c .args .table .now) .exact
 
 pub whole-spec : {M : Type 1} → statement M
 whole-spec = tie.close (tie.spec mul-result returns)
