@@ -1,0 +1,4 @@
+pub mod Fields
+pub mod Heights
+pub mod Walk
+pub mod Listed
