@@ -1,6 +1,7 @@
 // The calls for C and Rust, on numbers and slices of bytes. A call returns the refusal's number, or 0 where it gives a count; the count, or
 // the refusal's place, it writes to a number that the caller lends.
 use answer::answer_on_roll;
+use content::check_content;
 use curator::curators_answer;
 use cutting::cut_view;
 use printer::print_query;
@@ -13,6 +14,7 @@ use roll::run_of;
 ghost use mathlib.Core.Path.{_≡_};
 ghost use Rattle.reply.specs.Reply.{said};
 ghost use Rattle.roll.specs.Promise.{RollChecked, RunPlace};
+ghost use Rattle.rules.specs.Promise.{ContentChecked};
 ghost use Rattle.text.specs.Print.{TablePrinted};
 ghost use Rattle.text.specs.Promise.{TextRead};
 ghost use Rattle.answer.specs.Promise.{Answered};
@@ -135,4 +137,17 @@ pub extern "C" fn kepolas_print_query(query: &[u8], room: &mut [u8], told: &mut 
     ensures { λ r. ⌜ Tells (λ s. TablePrinted (now (query .entry)) (now (room .entry)) s (now (room .exit))) r (now (told .exit)) ⌝ }
 {
     tell(print_query(query, room), told)
+}
+
+// The check of a roll's content.
+#[no_mangle]
+pub extern "C" fn kepolas_check_content(
+    roll: &[u8],
+    rules: &[u8],
+    list: &[u8],
+    told: &mut usize,
+) -> u64
+    ensures { λ r. ⌜ Tells (ContentChecked (now (roll .entry)) (now (rules .entry)) (now (list .entry))) r (now (told .exit)) ⌝ }
+{
+    tell(check_content(roll, rules, list), told)
 }
