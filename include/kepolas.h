@@ -1,15 +1,16 @@
-/* The seven calls of Kepolas, and printing, for C and C++. `rt staticlib kepolas` writes the library to target/staticlib/libkepolas.a.
- * docs/MANUAL.md has all rules; what a call promises is proved (crates/kepolas/src/lib.rt). These declarations are not, but a test holds
- * them to that source (rust/tests/declarations.rs).
+/* The seven calls of Kepolas, printing and the check of a roll's content, for C and C++. `rt staticlib kepolas` writes the library to
+ * target/staticlib/libkepolas.a. docs/MANUAL.md has all rules; what a call promises is proved (crates/kepolas/src/lib.rt). These
+ * declarations are not, but a test holds them to that source (rust/tests/declarations.rs).
  *
  * - Bytes are handed over as a pointer and a length. The pointer must be good for its length; where the length is 0 it may be any pointer
  *   but null.
  * - What is lent for writing (room, told, start, end) must overlap nothing else that is handed over. What is only read may overlap.
  * - The library keeps no state and takes no memory but stack, so the calls are reentrant and may run in several threads at once.
  * - Any bytes and any numbers may be handed in: a call checks its inputs itself.
- * - Calls 1 to 6 and printing return 0 and write a count to told, or return a refusal's number and write its place there. A refused call
- *   changes no byte of the room.
- * - Stack, measured and not proved: call 3 takes at most about 719 KB, call 6 about 234 KB, call 4 about 159 KB. */
+ * - Calls 1 to 6, printing and the check of content return 0 and write a count to told, or return a refusal's number and write its place
+ *   there. A refused call changes no byte of the room.
+ * - Stack, measured and not proved: call 3 takes at most about 719 KB, call 6 about 234 KB, call 4 about 159 KB, the check of content about
+ *   86 KB. */
 #ifndef KEPOLAS_H
 #define KEPOLAS_H
 
@@ -24,6 +25,8 @@ extern "C" {
 #define KEPOLAS_NODE_BYTES 4       /* of a roll */
 #define KEPOLAS_ENTRY_BYTES 6      /* of a query table or filter table */
 #define KEPOLAS_ANNOTATION_BYTES 6 /* of an annotation */
+#define KEPOLAS_RULE_BYTES 6       /* of rule entries */
+#define KEPOLAS_LISTED_BYTES 4     /* of their list */
 
 /* Bytes of the longest input that is accepted. */
 #define KEPOLAS_ROLL_LIMIT 16384     /* 4,096 nodes */
@@ -32,6 +35,8 @@ extern "C" {
 #define KEPOLAS_ANNOTATION_LIMIT 192 /* 32 records */
 #define KEPOLAS_ANSWERED_LIMIT 6144  /* a query answered on a roll, for call 3: 1,024 entries, height 128 */
 #define KEPOLAS_TEXT_LIMIT 1024      /* a query text */
+#define KEPOLAS_RULE_LIMIT 1536      /* 256 rule entries, height 32 */
+#define KEPOLAS_LIST_LIMIT 256       /* 64 list records */
 
 /* Bytes of room to lend; a longer room will do. Call 4 asks for one as long as the roll. */
 #define KEPOLAS_TABLE_ROOM 1536     /* call 2 */
@@ -59,7 +64,9 @@ enum kepolas_reason {
     KEPOLAS_TABLE_TOO_LARGE = 16,   /* text in the grammar, but its table passes 256 entries or height 32 */
     KEPOLAS_FILE_UNREADABLE = 17,   /* the program alone: a file cannot be read. No call returns it */
     KEPOLAS_TEXT_TOO_LONG = 18,     /* the text to be printed is longer than 1,024 bytes */
-    KEPOLAS_TWO_STARS = 19          /* a star right behind a star: that byte */
+    KEPOLAS_TWO_STARS = 19,         /* a star right behind a star: that byte */
+    KEPOLAS_RULES_MALFORMED = 20,   /* length of rule entries or of their list; else entry; else list record */
+    KEPOLAS_CHILDREN_FORBIDDEN = 21 /* child labels not in the language of the label's rule: record */
 };
 
 /* Call 1: checks a roll. Counts its nodes. */
@@ -92,6 +99,11 @@ void kepolas_run_of(const uint8_t *roll, size_t roll_len, size_t k, size_t *star
 /* Printing: writes a curator's query table as text, with the fewest brackets that keep its grouping and its stars apart. Counts the bytes
  * written. */
 uint64_t kepolas_print_query(const uint8_t *query, size_t query_len, uint8_t *room, size_t room_len, size_t *told);
+
+/* The check of a roll's content: every node's child labels, in order, must be in the language of the rule that the list has for its label.
+ * Counts the nodes. */
+uint64_t kepolas_check_content(const uint8_t *roll, size_t roll_len, const uint8_t *rules, size_t rules_len, const uint8_t *list,
+                               size_t list_len, size_t *told);
 
 #ifdef __cplusplus
 }

@@ -56,4 +56,13 @@ extern "C" {
         room_len: usize,
         told: *mut usize,
     ) -> u64;
+    pub fn kepolas_check_content(
+        roll: *const u8,
+        roll_len: usize,
+        rules: *const u8,
+        rules_len: usize,
+        list: *const u8,
+        list_len: usize,
+        told: *mut usize,
+    ) -> u64;
 }

@@ -1,5 +1,5 @@
-//! The seven calls of Kepolas, a query engine for protected views, and the printing of queries, as safe functions over the
-//! proved library.
+//! The seven calls of Kepolas, a query engine for protected views, the printing of queries and the check of a roll's content, as
+//! safe functions over the proved library.
 //!
 //! `docs/MANUAL.md` has all rules: what rolls, tables and annotations are, what a query means, what is refused. A call
 //! checks its inputs itself, so any bytes may be handed in. It answers with a count, or with a [`Refusal`]: a reason, which
@@ -298,6 +298,43 @@ pub fn print_query(query: &[u8], room: &mut [u8]) -> Result<usize, Refusal> {
     // SAFETY: each slice is good for its length; the room and `told`, which are written, overlap nothing.
     let number =
         unsafe { calls::kepolas_print_query(query.as_ptr(), query.len(), room.as_mut_ptr(), room.len(), &mut told) };
+    heard(number, told)
+}
+
+/// The check of a roll's content, and of the rules themselves: rule entries of 6 bytes (kinds 32 to 36; to 256 entries,
+/// height 32) and their list, records of 4 bytes that name an entry for a label (to 64). Every node's child labels, in
+/// order, must be in the language of the rule that its label has; a label that is not listed takes any children. Gives the
+/// number of nodes.
+///
+/// Refuses as [`check_roll`]; then with [`RulesMalformed`](Reason::RulesMalformed), for a bad length of either, for the
+/// lowest bad entry, for the lowest bad list record; then with [`ChildrenForbidden`](Reason::ChildrenForbidden) for the
+/// lowest node whose children are not allowed.
+///
+/// ```
+/// use kepolas::{check_content, Reason, Refusal};
+/// // A root with label 1 and two children with label 2.
+/// let roll = [1, 0, 0xff, 0xff, 2, 0, 0, 0, 2, 0, 0, 0];
+/// // Entry 0: the label 2. Entry 1: zero or more of it. The list: entry 1 is the rule of label 1.
+/// let rules = [33, 2, 0, 0, 0, 0, 36, 0, 0, 0, 0, 0];
+/// assert_eq!(check_content(&roll, &rules, &[1, 0, 1, 0]), Ok(3));
+/// // By entry 0 a node with label 1 has one child.
+/// let refused = Refusal { reason: Reason::ChildrenForbidden, place: 0 };
+/// assert_eq!(check_content(&roll, &rules, &[1, 0, 0, 0]), Err(refused));
+/// ```
+pub fn check_content(roll: &[u8], rules: &[u8], list: &[u8]) -> Result<usize, Refusal> {
+    let mut told = 0;
+    // SAFETY: each slice is good for its length and only read; `told` overlaps nothing.
+    let number = unsafe {
+        calls::kepolas_check_content(
+            roll.as_ptr(),
+            roll.len(),
+            rules.as_ptr(),
+            rules.len(),
+            list.as_ptr(),
+            list.len(),
+            &mut told,
+        )
+    };
     heard(number, told)
 }
 

@@ -46,10 +46,15 @@ pub enum Reason {
     TextTooLong = 18,
     /// 19: a star stands right behind a star; the place is the first such star.
     TwoStars = 19,
+    /// 20: rule entries or their list are malformed: the place is 0 for a bad length of either, else the lowest bad entry,
+    /// else the lowest bad list record.
+    RulesMalformed = 20,
+    /// 21: a node's children are not allowed by its label's rule. The place is the record.
+    ChildrenForbidden = 21,
 }
 
 /// All reasons, in the order of their numbers.
-const ALL: [Reason; 19] = [
+const ALL: [Reason; 21] = [
     Reason::ShortRoom,
     Reason::RollLength,
     Reason::NodeLabel,
@@ -69,10 +74,12 @@ const ALL: [Reason; 19] = [
     Reason::FileUnreadable,
     Reason::TextTooLong,
     Reason::TwoStars,
+    Reason::RulesMalformed,
+    Reason::ChildrenForbidden,
 ];
 
 impl Reason {
-    /// The number in the list of refusals, 1 to 19.
+    /// The number in the list of refusals, 1 to 21.
     pub fn number(self) -> u8 {
         self as u8
     }
@@ -105,10 +112,12 @@ impl Reason {
             Reason::FileUnreadable => "file cannot be read",
             Reason::TextTooLong => "printed text longer than 1,024 bytes",
             Reason::TwoStars => "star right behind a star",
+            Reason::RulesMalformed => "rule entries or their list malformed",
+            Reason::ChildrenForbidden => "children not allowed",
         }
     }
 
-    /// The reason that has a number; none has 0 or a number above 19.
+    /// The reason that has a number; none has 0 or a number above 21.
     ///
     /// ```
     /// use kepolas::Reason;

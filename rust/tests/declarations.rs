@@ -59,7 +59,7 @@ fn proved() -> Vec<String> {
 #[test]
 fn the_crate_declares_the_functions_of_the_proved_source() {
     let declared = heads(DECLARED, "pub fn ", ";").map(|head| line(&head, result(&head), str::to_string));
-    assert_eq!(proved().len(), 8);
+    assert_eq!(proved().len(), 9);
     assert_eq!(declared.collect::<Vec<_>>(), proved());
 }
 

@@ -36,7 +36,7 @@ fn reasons(style: impl Fn(&str) -> String) -> Vec<(String, u8)> {
 #[test]
 fn the_reasons_are_those_of_the_proved_code_and_of_the_header() {
     let numbers: Vec<u8> = reasons(shouted).into_iter().map(|(_, number)| number).collect();
-    assert_eq!(numbers, (1..=19).collect::<Vec<u8>>());
+    assert_eq!(numbers, (1..=21).collect::<Vec<u8>>());
     assert_eq!(reasons(str::to_string), listed(PROVED, "Reason::", " => "));
     assert_eq!(reasons(shouted), listed(HEADER, "KEPOLAS_", " = "));
 }
@@ -53,5 +53,5 @@ fn the_rooms_are_those_of_the_header() {
 #[test]
 fn each_reason_has_a_name_of_its_own() {
     let names: std::collections::HashSet<_> = (0..=100).filter_map(Reason::of).map(Reason::name).collect();
-    assert_eq!(names.len(), 19);
+    assert_eq!(names.len(), 21);
 }
