@@ -8,6 +8,7 @@ use crate::meaning::{Meaning, Nodes};
 use crate::print;
 use crate::reply::{refusal, Refusal, Reply};
 use crate::roll::{Tree, MOST_NODES, NODE_BYTES};
+use crate::rules::Rules;
 use crate::table::{self, Entry, CURATORS_QUERY, ENTRY_BYTES, QUERY_ON_ROLL};
 use crate::text;
 use crate::view::View;
@@ -91,6 +92,19 @@ pub fn print_query(query: &[u8], room: &mut [u8]) -> Reply {
         let bytes = text.len();
         Ok((text, bytes))
     })
+}
+
+/// Document 02, request Q-3: the number of nodes of a roll that follows its content rules.
+pub fn check_content(roll: &[u8], rules: &[u8], list: &[u8]) -> Reply {
+    let follow = || {
+        let tree = Tree::read(roll)?;
+        let rules = Rules::read(rules, list)?;
+        match rules.first_breach(&tree) {
+            Some(node) => Err(refusal(21, usize::from(node))),
+            None => Ok(tree.len()),
+        }
+    };
+    follow().into()
 }
 
 /// Refuses a room that is too short before anything else; otherwise lets the call work and hands its bytes over.

@@ -5,16 +5,20 @@
 
 pub mod annotation;
 pub mod calls;
+pub mod expression;
+pub mod language;
 pub mod meaning;
 pub mod print;
 pub mod reply;
 pub mod rewrite;
 pub mod roll;
+pub mod rules;
 pub mod table;
 pub mod text;
 pub mod view;
 
 pub use calls::{
-    answer_on_roll, check_roll, curators_answer, cut_view, print_query, read_text, rewrite, run_of_record,
+    answer_on_roll, check_content, check_roll, curators_answer, cut_view, print_query, read_text, rewrite,
+    run_of_record,
 };
 pub use reply::Reply;

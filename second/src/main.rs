@@ -92,6 +92,10 @@ fn make_call(words: &[&str]) -> Option<String> {
         let [roll] = words else { return None };
         return Some(calls::check_roll(&from_hex(roll)?).to_string());
     }
+    if *call == "content" {
+        let [roll, rules, list] = words else { return None };
+        return Some(calls::check_content(&from_hex(roll)?, &from_hex(rules)?, &from_hex(list)?).to_string());
+    }
     let (room, inputs) = words.split_last()?;
     let mut room = vec![UNTOUCHED; room.parse().ok()?];
     let inputs = inputs.iter().map(|word| from_hex(word)).collect::<Option<Vec<_>>>()?;

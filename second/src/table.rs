@@ -79,16 +79,12 @@ impl Entry {
     /// The six bytes of the entry; what it does not use is zero.
     pub fn write(&self) -> [u8; ENTRY_BYTES] {
         let label = if let Label(label) = self { *label } else { 0 };
-        let operands = self.operands();
-        let field = |which: usize| (operands.get(which).copied().unwrap_or(0) as u16).to_le_bytes();
-        let ([left_low, left_high], [right_low, right_high]) = (field(0), field(1));
-        [self.kind(), label, left_low, left_high, right_low, right_high]
+        record(self.kind(), label, &self.operands())
     }
 
     /// The entry six bytes stand for behind these earlier entries, if they stand for one.
     fn read(record: &[u8], earlier: &[Entry]) -> Option<Entry> {
-        let left = usize::from(u16::from_le_bytes([record[2], record[3]]));
-        let right = usize::from(u16::from_le_bytes([record[4], record[5]]));
+        let (left, right) = operand_fields(record);
         let of_sort = |number: usize, path: bool| earlier.get(number).is_some_and(|entry| entry.is_path() == path);
         let path = |number| of_sort(number, true).then_some(number);
         let filter = |number| of_sort(number, false).then_some(number);
@@ -116,12 +112,29 @@ impl Entry {
     }
 }
 
-/// The height of each entry: 1 without operands, otherwise one more than its highest operand.
+/// The six bytes of any entry; an operand it does not have is zero.
+pub fn record(kind: u8, label: u8, operands: &[usize]) -> [u8; ENTRY_BYTES] {
+    let field = |which: usize| (operands.get(which).copied().unwrap_or(0) as u16).to_le_bytes();
+    let ([left_low, left_high], [right_low, right_high]) = (field(0), field(1));
+    [kind, label, left_low, left_high, right_low, right_high]
+}
+
+/// What stands in the fields for the left and the right operand of an entry's six bytes.
+pub fn operand_fields(record: &[u8]) -> (usize, usize) {
+    let field = |low: usize| usize::from(u16::from_le_bytes([record[low], record[low + 1]]));
+    (field(2), field(4))
+}
+
+/// The height of an entry: 1 without operands, otherwise one more than its highest operand.
+pub fn height_over(operands: &[usize], heights: &[usize]) -> usize {
+    1 + operands.iter().map(|operand| heights[*operand]).max().unwrap_or(0)
+}
+
+/// The height of each entry.
 pub fn heights(entries: &[Entry]) -> Vec<usize> {
     let mut heights: Vec<usize> = Vec::with_capacity(entries.len());
     for entry in entries {
-        let below = entry.operands().into_iter().map(|operand| heights[operand]).max();
-        heights.push(1 + below.unwrap_or(0));
+        heights.push(height_over(&entry.operands(), &heights));
     }
     heights
 }
@@ -158,7 +171,7 @@ fn read_entries(bytes: &[u8], most_height: usize) -> Result<Vec<Entry>, Refusal>
     let mut heights: Vec<usize> = Vec::with_capacity(bytes.len() / ENTRY_BYTES);
     for (number, record) in bytes.chunks(ENTRY_BYTES).enumerate() {
         let entry = Entry::read(record, &entries).ok_or(refusal(8, number))?;
-        let height = 1 + entry.operands().into_iter().map(|operand| heights[operand]).max().unwrap_or(0);
+        let height = height_over(&entry.operands(), &heights);
         if height > most_height {
             return Err(refusal(9, number));
         }

@@ -129,6 +129,9 @@ fn calls_in_hex_show_reply_and_room() {
     assert_eq!(called("print 020000000000090000000000 1030"), format!("A 2 762a{}\n", untouched(1028)));
     assert_eq!(called("print 120000000000 1024"), format!("R 12 0 {}\n", untouched(1024)));
     assert_eq!(called("print 020000000000 1023"), format!("R 1 0 {}\n", untouched(1023)));
+    assert_eq!(called("content 0100ffff02000000 210200000000 01000000"), "A 2\n");
+    assert_eq!(called("content 0100ffff02000000 200000000000 01000000"), "R 21 0\n");
+    assert_eq!(called("content 0100ffff02000000 - -"), "A 2\n");
     assert_eq!(called("7 0100ffff0200000002000000 1"), "4 8\n");
     assert_eq!(called("7 0100ffff0200000002000000 0"), "0 12\n");
     assert_eq!(called("7 0100ffff0200000002000000 3"), "0 0\n");

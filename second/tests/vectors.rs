@@ -54,6 +54,15 @@ fn prints() {
 }
 
 #[test]
+fn rules() {
+    for case in cases(include_str!("vectors/rules.txt")) {
+        let [roll, rules, list] = [0, 1, 2].map(|word| from_hex(case[word]));
+        let reply = second::check_content(&roll, &rules, &list);
+        assert_eq!(format!("{} {reply}", case[..3].join(" ")), case.join(" "));
+    }
+}
+
+#[test]
 fn rolls() {
     for case in cases(include_str!("vectors/rolls.txt")) {
         let roll = from_hex(case[0]);
