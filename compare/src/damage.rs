@@ -4,6 +4,7 @@ use second::table::Limits;
 
 use crate::chance::Chance;
 use crate::records::{entry, node, MOST_NODES};
+use crate::rules::{HEIGHT, MOST_ENTRIES, MOST_LISTED};
 
 /// Most labels that are none, and bytes that are next to something.
 const BYTES: [u8; 11] = [0, 1, 2, 7, 10, 16, 23, 64, 65, 128, 255];
@@ -113,5 +114,52 @@ pub fn break_annotation(chance: &mut Chance, annotation: &mut Vec<u8>) {
         3 => bytes[chance.pick(&[0, 1])] = 1 + chance.below(64) as u8,
         4 if number > 0 => annotation.copy_within(6 * number - 6..6 * number, 6 * number),
         _ => spoil(chance, annotation),
+    }
+}
+
+/// Rule entries.
+pub fn break_rules(chance: &mut Chance, rules: &mut Vec<u8>) {
+    if rules.len() < 6 || chance.one_in(8) {
+        return break_length(chance, rules, &entry(32, 0, 0, 0), MOST_ENTRIES);
+    }
+    let number = some_record(chance, rules.len() / 6);
+    let bytes = &mut rules[6 * number..6 * number + 6];
+    match chance.below(6) {
+        0 => bytes[0] = chance.pick(&[0, 31, 37, 128, 255, 2, 32, 33, 34, 35, 36]),
+        1 => bytes[1] = chance.pick(&[0, 1, 64, 65, 128, 255]),
+        2 | 3 => {
+            let field = chance.pick(&[2, 4]);
+            bytes[field] = chance.pick(&[number as u8, number as u8 ^ 1, 0, 1, 255]);
+            bytes[field + 1] = chance.pick(&[0, 0, 1, 255]);
+        }
+        4 => raise_rules(chance, rules),
+        _ => spoil(chance, rules),
+    }
+}
+
+/// An entry more than there may be upon one label, each upon the one before, behind the entries, of which some go if there is no room.
+fn raise_rules(chance: &mut Chance, rules: &mut Vec<u8>) {
+    rules.truncate(6 * (MOST_ENTRIES - HEIGHT - 1));
+    let first = rules.len() / 6;
+    rules.extend(entry(33, 1, 0, 0));
+    for below in first..first + HEIGHT {
+        rules.extend(chance.pick(&[entry(34, 0, below, first), entry(35, 0, first, below), entry(36, 0, below, 0)]));
+    }
+}
+
+/// The list of rules.
+pub fn break_list(chance: &mut Chance, list: &mut Vec<u8>) {
+    if list.len() < 4 || chance.one_in(8) {
+        return break_length(chance, list, &node(64, 0), MOST_LISTED);
+    }
+    let number = some_record(chance, list.len() / 4);
+    let bytes = &mut list[4 * number..4 * number + 4];
+    match chance.below(6) {
+        0 => bytes[0] = chance.pick(&[0, 65, 128, 255]),
+        1 => bytes[1] = 1 + chance.below(255) as u8,
+        2 => bytes[2] = chance.below(256) as u8,
+        3 => bytes[3] = chance.pick(&[1, 2, 255]),
+        4 if number > 0 => list.copy_within(4 * number - 4..4 * number, 4 * number),
+        _ => spoil(chance, list),
     }
 }

@@ -6,11 +6,12 @@ use second::Reply;
 
 use crate::annotated::Annotated;
 use crate::chance::Chance;
-use crate::damage::{break_annotation, break_roll, break_table};
+use crate::damage::{break_annotation, break_list, break_roll, break_rules, break_table};
 use crate::labels::{any_labels, Labels};
 use crate::outcomes::*;
 use crate::records::{chain, grown_roll, labelled, wide, MOST_NODES};
-use crate::same::{self, BITMAP_ROOM, PRINTING, PRINT_ROOM, REWRITE_ROOM, TEXT_ROOM};
+use crate::rules::{greatest_rules, some_rules};
+use crate::same::{self, BITMAP_ROOM, CONTENT, PRINTING, PRINT_ROOM, REWRITE_ROOM, TEXT_ROOM};
 use crate::seen::{outcome, Kind, Seen};
 use crate::tables::{table_of, Table, LABELS};
 use crate::texts::some_text;
@@ -56,7 +57,7 @@ impl Drop for Told {
     }
 }
 
-pub const CALLS: [Call; 8] = [
+pub const CALLS: [Call; 9] = [
     Call { number: 1, draw: check_roll, expected: &[OF_ROLL, &[(0, "nodes"), (0, "4,096 nodes")]] },
     Call { number: 2, draw: read_text, expected: &[OF_ROOM, OF_TEXT] },
     Call { number: 3, draw: answer_on_roll, expected: &[OF_ROOM, OF_ROLL, OF_QUERY, OF_ANSWERS, OF_GREATEST_QUERIES] },
@@ -95,6 +96,7 @@ pub const CALLS: [Call; 8] = [
     },
     Call { number: 7, draw: run_of_record, expected: &[OF_RUNS] },
     Call { number: PRINTING, draw: print_query, expected: &[OF_ROOM, OF_QUERY, OF_GREATEST_QUERIES, OF_PRINTED] },
+    Call { number: CONTENT, draw: check_content, expected: &[OF_ROLL, OF_CONTENT] },
 ];
 
 /// A roll of few nodes, of some hundred, or of about as many as there may be; and whether it is one of these. A chain is no longer than
@@ -373,5 +375,34 @@ fn print_query(chance: &mut Chance, seen: &mut Seen) {
             note_printed(seen, &query, &text);
             note_greatest_query(seen, &query, CURATORS_QUERY);
         }
+    }
+}
+
+/// A node, mostly one of the last, gets a label that no other has.
+fn relabel(chance: &mut Chance, roll: &mut [u8], labels: usize) {
+    let nodes = roll.len() / 4;
+    if nodes > 1 {
+        let back = if chance.one_in(4) { nodes - 1 } else { (nodes - 1).min(8) };
+        roll[4 * (nodes - 1 - chance.below(back))] = labels as u8 + 1;
+    }
+}
+
+fn check_content(chance: &mut Chance, seen: &mut Seen) {
+    let labels = 1 + chance.below(4);
+    let (mut roll, great) = some_roll(chance, labels, MOST_NODES);
+    let (mut rules, mut list) =
+        if chance.one_in(32) { greatest_rules(chance) } else { some_rules(chance, &roll, labels) };
+    for _ in 0..chance.below(3) {
+        match chance.below(6) {
+            0 => break_roll(chance, &mut roll),
+            1 | 2 => break_rules(chance, &mut rules),
+            3 => break_list(chance, &mut list),
+            4 => relabel(chance, &mut roll, labels),
+            _ => {}
+        }
+    }
+    match outcome(same::check_content(&roll, &rules, &list)) {
+        Err(refused) => note_content(seen, refused, &rules, &list),
+        Ok(_) => note_followed(seen, &rules, &list, great),
     }
 }

@@ -8,6 +8,7 @@ pub mod draws;
 pub mod labels;
 pub mod outcomes;
 pub mod records;
+pub mod rules;
 pub mod same;
 pub mod seen;
 pub mod tables;
@@ -52,6 +53,11 @@ pub fn rewrite(annotation: &[u8], filters: &[u8], query: &[u8], room: &mut [u8])
 /// Call 6.
 pub fn curators_answer(roll: &[u8], annotation: &[u8], filters: &[u8], query: &[u8], room: &mut [u8]) -> Reply {
     reply(kepolas::curators_answer(roll, annotation, filters, query, room))
+}
+
+/// The check of a roll's content.
+pub fn check_content(roll: &[u8], rules: &[u8], list: &[u8]) -> Reply {
+    reply(kepolas::check_content(roll, rules, list))
 }
 
 /// Call 7.

@@ -4,8 +4,12 @@ use second::table::{heights, read_filters, read_query, Limits, CURATORS_QUERY, E
 use second::Reply;
 
 use crate::annotated::Annotated;
+use crate::rules::{heights_of, stars_of, HEIGHT, MOST_ENTRIES, MOST_LISTED};
 use crate::same::{PRINT_ROOM, TEXT_ROOM};
 use crate::seen::{outcome, Kind, Seen};
+
+/// A roll of one node, for what is asked of rules alone.
+const ROOT_ALONE: [u8; 4] = [1, 0, 255, 255];
 
 pub const OF_ROOM: &[Kind] =
     &[(1, "a room short by one"), (1, "a shorter room"), (0, "a room as named"), (0, "a longer room")];
@@ -93,6 +97,27 @@ pub const OF_PRINTED: &[Kind] = &[
     (0, "read as other bytes"),
     (0, "too many entries in a text"),
     (0, "too many entries in a long text"),
+];
+
+/// Of the check of content, behind the roll's refusals.
+pub const OF_CONTENT: &[Kind] = &[
+    (20, "a length"),
+    (20, "a rule entry"),
+    (20, "a late rule entry"),
+    (20, "a list record"),
+    (20, "a late list record"),
+    (21, "the root"),
+    (21, "a node"),
+    (21, "a late node"),
+    (21, "by a rule with stars inside stars"),
+    (0, "with no list"),
+    (0, "some nodes with a rule"),
+    (0, "a great roll with rules"),
+    (0, "the most rule entries"),
+    (0, "the highest rule entry"),
+    (0, "the most list records"),
+    (0, "a rule with stars inside stars"),
+    (0, "a rule with more than 32 stars"),
 ];
 
 /// The room of a call that has one: too short, as long as is named for it, or longer. Other refusals say nothing of it.
@@ -219,5 +244,53 @@ pub fn note_printed(seen: &mut Seen, query: &[u8], text: &[u8]) {
         }
         Ok(entries) if room[..entries * ENTRY_BYTES] == *query => seen.note(0, "read as the same bytes"),
         Ok(_) => seen.note(0, "read as other bytes"),
+    }
+}
+
+/// A refusal of rules or of a node's children. 20 is of the first of lengths, entries and list that is not in order, which the rules say.
+pub fn note_content(seen: &mut Seen, (number, place): (u8, usize), rules: &[u8], list: &[u8]) {
+    let bad_length = |bytes: &[u8], record: usize, most: usize| bytes.len() % record > 0 || bytes.len() > record * most;
+    let lengths = bad_length(rules, ENTRY_BYTES, MOST_ENTRIES) || bad_length(list, 4, MOST_LISTED);
+    match number {
+        20 if lengths => seen.note(20, "a length"),
+        20 if second::check_content(&ROOT_ALONE, rules, &[]) == (Reply::Refused { number, place }) => {
+            seen.note_place(20, place, 100, ["a rule entry", "a late rule entry"]);
+        }
+        20 => seen.note_place(20, place, 8, ["a list record", "a late list record"]),
+        21 if place == 0 => seen.note(21, "the root"),
+        21 => seen.note_place(21, place, 100, ["a node", "a late node"]),
+        _ => note_roll(seen, (number, place)),
+    }
+    if number == 21 && listed_stars(rules, list).any(|(_, deep)| deep > 1) {
+        seen.note(21, "by a rule with stars inside stars");
+    }
+}
+
+/// The stars of the rules that are listed.
+fn listed_stars<'a>(rules: &[u8], list: &'a [u8]) -> impl Iterator<Item = (u64, usize)> + 'a {
+    let stars = stars_of(rules);
+    list.chunks_exact(4).map(move |record| stars[usize::from(record[2]) + 256 * usize::from(record[3])])
+}
+
+/// Rules that a roll follows.
+pub fn note_followed(seen: &mut Seen, rules: &[u8], list: &[u8], great: bool) {
+    seen.note(0, if list.is_empty() { "with no list" } else { "some nodes with a rule" });
+    if great && !list.is_empty() {
+        seen.note(0, "a great roll with rules");
+    }
+    if rules.len() == ENTRY_BYTES * MOST_ENTRIES {
+        seen.note(0, "the most rule entries");
+    }
+    if heights_of(rules).into_iter().max() == Some(HEIGHT) {
+        seen.note(0, "the highest rule entry");
+    }
+    if list.len() == 4 * MOST_LISTED {
+        seen.note(0, "the most list records");
+    }
+    if listed_stars(rules, list).any(|(_, deep)| deep > 1) {
+        seen.note(0, "a rule with stars inside stars");
+    }
+    if listed_stars(rules, list).any(|(stars, _)| stars > 32) {
+        seen.note(0, "a rule with more than 32 stars");
     }
 }

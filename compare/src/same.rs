@@ -15,8 +15,9 @@ pub const BITMAP_ROOM: usize = 512;
 pub const REWRITE_ROOM: usize = 6144;
 pub const PRINT_ROOM: usize = 1024;
 
-/// Printing has no number in the documents; here it goes by the one behind document 01's calls.
+/// Printing and the check of content have no number in the documents; here they go by those behind document 01's calls.
 pub const PRINTING: u8 = 8;
+pub const CONTENT: u8 = 9;
 
 /// How many bytes behind a room are looked at too.
 const BEHIND: usize = 16;
@@ -45,12 +46,13 @@ fn written((reply, mut lent): Outcome, bytes: impl Fn(usize) -> usize, shown: &i
     (reply, lent)
 }
 
-/// A call for an error message, as the second program's `calls` takes it; call 1 has no number behind its input.
+/// A call for an error message, as the second program's `calls` takes it; call 1 and the check of content have no number behind their inputs.
 fn line(call: u8, inputs: &[&[u8]], number: usize) -> String {
     let inputs: String = inputs.iter().map(|bytes| format!(" {}", to_hex(bytes))).collect();
     match call {
         1 => format!("1{inputs}"),
         PRINTING => format!("print{inputs} {number}"),
+        CONTENT => format!("content{inputs}"),
         _ => format!("{call}{inputs} {number}"),
     }
 }
@@ -76,6 +78,12 @@ fn both(
 /// Call 1.
 pub fn check_roll(roll: &[u8]) -> Reply {
     both(1, &[roll], 0, |_| 0, |_| crate::check_roll(roll), |_| second::check_roll(roll)).0
+}
+
+/// The check of a roll's content.
+pub fn check_content(roll: &[u8], rules: &[u8], list: &[u8]) -> Reply {
+    let proved = |_: &mut [u8]| crate::check_content(roll, rules, list);
+    both(CONTENT, &[roll, rules, list], 0, |_| 0, proved, |_| second::check_content(roll, rules, list)).0
 }
 
 /// Call 2.

@@ -2,7 +2,7 @@
 //! give is among them, of each input that it can speak of, at early places and at late ones.
 
 use compare::draws::{CALLS, INPUTS, LEAST};
-use compare::same::PRINTING;
+use compare::same::{CONTENT, PRINTING};
 use compare::seen::Seen;
 
 const SEED: u64 = 1;
@@ -53,4 +53,9 @@ fn call_7() {
 #[test]
 fn printing() {
     drawn(usize::from(PRINTING));
+}
+
+#[test]
+fn content() {
+    drawn(usize::from(CONTENT));
 }

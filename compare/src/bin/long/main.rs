@@ -1,5 +1,5 @@
 //! The draws of the tests, from any seed and in any number: `long SEED COUNT [CALL ..]` draws so many inputs of each call, or of those
-//! named, among which 8 is printing; for COUNT there may stand the numbers of the inputs, FIRST..END. It ends with an error at the first
+//! named, among which 8 is printing and 9 the check of content; for COUNT there may stand the numbers of the inputs, FIRST..END. It ends with an error at the first
 //! difference between the two programs, which it shows.
 
 use std::ops::Range;
