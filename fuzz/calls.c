@@ -1,4 +1,4 @@
-/* The seven calls and printing under libFuzzer: each input is split (input.h), put to one of them, and the reply and the lent bytes are
+/* The seven calls, printing and the check of content under libFuzzer: each input is split (input.h), put to one of them, and the reply and the lent bytes are
  * held to what docs/MANUAL.md promises, as far as that is cheap to say. A promise that does not hold ends the run. */
 #include <stdio.h>
 #include <stdlib.h>
@@ -57,6 +57,10 @@ static struct reply put(unsigned call, const struct part *parts, struct part roo
                                             room.bytes, room.length, told);
             break;
         case PRINTING: reply.refusal = kepolas_print_query(query.bytes, query.length, room.bytes, room.length, told); break;
+        case CONTENT:
+            reply.refusal =
+                kepolas_check_content(roll.bytes, roll.length, query.bytes, query.length, filters.bytes, filters.length, told);
+            break;
         default:
             reply.refusal = kepolas_curators_answer(roll.bytes, roll.length, annotation.bytes, annotation.length, filters.bytes,
                                                     filters.length, query.bytes, query.length, room.bytes, room.length, told);
@@ -69,7 +73,7 @@ static struct reply put(unsigned call, const struct part *parts, struct part roo
 static int same(struct reply one, struct reply other) { return one.refusal == other.refusal && one.told == other.told; }
 
 /* The refusals that the list has for a call: bit n stands for number n. */
-static const uint32_t REFUSALS[PRINTING + 1] = {0, 0x3c, 0x9e002, 0x133e, 0xffe, 0x1fc2, 0x1ffe, 0, 0x41302};
+static const uint32_t REFUSALS[CONTENT + 1] = {0, 0x3c, 0x9e002, 0x133e, 0xffe, 0x1fc2, 0x1ffe, 0, 0x41302, 0x30003c};
 
 /* The first star right behind a star, or the end of the text. */
 static size_t slip(struct part text) {
@@ -81,7 +85,7 @@ static size_t slip(struct part text) {
 static int place_fits(uint64_t refusal, size_t place, const struct part *parts) {
     size_t records = parts[ANNOTATION].length / KEPOLAS_ANNOTATION_BYTES, entries = parts[QUERY].length / KEPOLAS_ENTRY_BYTES;
     switch (refusal) {
-        case KEPOLAS_NODE_LABEL: case KEPOLAS_SECOND_BYTE: case KEPOLAS_PARENT_FIELD:
+        case KEPOLAS_NODE_LABEL: case KEPOLAS_SECOND_BYTE: case KEPOLAS_PARENT_FIELD: case KEPOLAS_CHILDREN_FORBIDDEN:
             return place < parts[ROLL].length / KEPOLAS_NODE_BYTES;
         case KEPOLAS_ANNOTATION_RECORD: case KEPOLAS_PAIR_ORDER: return place < records;
         case KEPOLAS_ENTRY_MALFORMED: case KEPOLAS_ENTRY_HEIGHT:
@@ -89,13 +93,15 @@ static int place_fits(uint64_t refusal, size_t place, const struct part *parts) 
         case KEPOLAS_QUERY_TABLE: return place == 0 || place + 1 == entries;
         case KEPOLAS_NOT_IN_GRAMMAR: return place <= parts[QUERY].length;
         case KEPOLAS_TOO_MANY_OPEN: return place < parts[QUERY].length && memchr("([{", parts[QUERY].bytes[place], 3) != NULL;
+        case KEPOLAS_RULES_MALFORMED:
+            return place == 0 || place < entries || place < parts[FILTERS].length / KEPOLAS_LISTED_BYTES;
         case KEPOLAS_TWO_STARS: return place < parts[QUERY].length && place == slip(parts[QUERY]);
         default: return place == 0;
     }
 }
 
 static void hold_refusal(unsigned call, struct reply reply, const struct part *parts, struct part room) {
-    hold(reply.refusal < 20 && (REFUSALS[call] >> reply.refusal & 1), "a call refuses by the numbers that the list has for it");
+    hold(reply.refusal < 22 && (REFUSALS[call] >> reply.refusal & 1), "a call refuses by the numbers that the list has for it");
     hold(place_fits(reply.refusal, reply.told, parts), "the place of a refusal lies in what is refused");
     hold(untouched_from(room, 0), "a refused call changes no byte of the room");
 }
@@ -277,6 +283,34 @@ static void hold_printed(struct part room, size_t bytes, struct part query) {
     free(text.bytes);
 }
 
+/* The check of content of another roll or list, by the same rules. */
+static struct reply put_content(struct part roll, const struct part *parts, size_t list_length) {
+    struct part list = {parts[FILTERS].bytes, list_length};
+    return put(CONTENT, (struct part[PARTS]){roll, {0}, list, parts[QUERY]}, (struct part){0});
+}
+
+static int listed(struct part list, uint8_t label) {
+    for (size_t at = 0; at + KEPOLAS_LISTED_BYTES <= list.length; at += KEPOLAS_LISTED_BYTES)
+        if (list.bytes[at] == label) return 1;
+    return 0;
+}
+
+/* Rules are refused alike on every roll; only a listed label is refused; and what passes with a list passes with less of it. */
+static void hold_content(struct reply reply, const struct part *parts) {
+    static const uint8_t root[] = {1, 0, 0xff, 0xff};
+    struct part roll = parts[ROLL], list = parts[FILTERS], alone = block_of(root, sizeof root);
+    if (put(1, parts, (struct part){0}).refusal == 0) {
+        struct reply on_root = put_content(alone, parts, list.length);
+        int of_rules = reply.refusal == KEPOLAS_RULES_MALFORMED, there = on_root.refusal == KEPOLAS_RULES_MALFORMED;
+        hold(of_rules == there && (!there || same(on_root, reply)), "rules are refused alike on every roll");
+    }
+    if (reply.refusal == KEPOLAS_CHILDREN_FORBIDDEN)
+        hold(listed(list, roll.bytes[KEPOLAS_NODE_BYTES * reply.told]), "a node whose children are refused has a label that is listed");
+    if (reply.refusal == 0 && list.length > 0)
+        hold(put_content(roll, parts, list.length - KEPOLAS_LISTED_BYTES).refusal == 0, "what passes with a list passes with less of it");
+    free(alone.bytes);
+}
+
 /* What two calls have in common. */
 static void hold_alike(unsigned call, struct reply reply, const struct part *parts, struct part room) {
     switch (call) {
@@ -288,6 +322,10 @@ static void hold_alike(unsigned call, struct reply reply, const struct part *par
             hold_curators(reply, room, parts);
             break;
         case PRINTING: hold_query(reply, parts[QUERY]); break;
+        case CONTENT:
+            hold_roll_first(reply, parts);
+            hold_content(reply, parts);
+            break;
         default: break;
     }
 }
@@ -295,7 +333,7 @@ static void hold_alike(unsigned call, struct reply reply, const struct part *par
 static void hold_accepted(unsigned call, struct reply reply, const struct part *parts, struct part room) {
     size_t nodes = parts[ROLL].length / KEPOLAS_NODE_BYTES;
     switch (call) {
-        case 1: hold(reply.told == nodes && nodes >= 1 && nodes <= 4096, "call 1 counts the nodes"); break;
+        case 1: case CONTENT: hold(reply.told == nodes && nodes >= 1 && nodes <= 4096, "a check of a roll counts the nodes"); break;
         case 2: hold_table(room, reply.told, KEPOLAS_TABLE_ROOM / KEPOLAS_ENTRY_BYTES); break;
         case 4: hold_view(room, reply.told, parts); break;
         case 5: hold_rewritten(room, reply.told, parts[FILTERS]); break;
@@ -331,17 +369,18 @@ static void ask_for_run(const struct input *input) {
 }
 
 static size_t room_of(const struct input *input) {
-    const size_t asked[PRINTING + 1] = {0, 0, KEPOLAS_TABLE_ROOM, KEPOLAS_BITMAP_ROOM, input->parts[ROLL].length, KEPOLAS_REWRITTEN_ROOM,
-                                        KEPOLAS_BITMAP_ROOM, 0, KEPOLAS_TEXT_ROOM};
+    const size_t asked[CONTENT + 1] = {0, 0, KEPOLAS_TABLE_ROOM, KEPOLAS_BITMAP_ROOM, input->parts[ROLL].length, KEPOLAS_REWRITTEN_ROOM,
+                                        KEPOLAS_BITMAP_ROOM, 0, KEPOLAS_TEXT_ROOM, 0};
     return asked[input->call];
 }
 
 static void ask(const struct input *input) {
     size_t asked = room_of(input);
     size_t given = input->room_more < 0 && (size_t)-input->room_more > asked ? 0 : asked + (size_t)(ptrdiff_t)input->room_more;
-    struct part room = marked_room(input->call == 1 ? 0 : given);
+    int has_room = input->call != 1 && input->call != CONTENT;
+    struct part room = marked_room(has_room ? given : 0);
     struct reply reply = put(input->call, input->parts, room);
-    if (input->call != 1)
+    if (has_room)
         hold((reply.refusal == KEPOLAS_SHORT_ROOM) == (given < asked), "1 is given exactly where the room is too short");
     if (reply.refusal != 0)
         hold_refusal(input->call, reply, input->parts, room);
@@ -358,6 +397,7 @@ static int costs_too_much(const struct input *input) {
         case 3: return cost_on_roll(parts[ROLL], parts[QUERY]) > COST_LIMIT;
         case 4: return cost_of_view(no_query) > COST_LIMIT;
         case 6: return cost_of_view(parts) > COST_LIMIT;
+        case CONTENT: return cost_of_content(parts[ROLL], parts[QUERY]) > COST_LIMIT;
         default: return 0;
     }
 }

@@ -48,6 +48,25 @@ static double cost_of_table(struct part table, struct prices prices) {
     return greatest;
 }
 
+/* What is kept of so many stars at most: those are gone on from once for each place in all, and stars behind them once for each round of
+ * the star around them. */
+#define STARS_KEPT 32
+
+/* The cost of the dearest rule entry, where a star takes so many rounds. */
+static double cost_of_rules(struct part rules, double rounds) {
+    double greatest = 0, costs[MOST_ENTRIES], uses[MOST_ENTRIES], stars[MOST_ENTRIES];
+    for (size_t entry = 0; entry < MOST_ENTRIES && (entry + 1) * KEPOLAS_RULE_BYTES <= rules.length; entry++) {
+        const uint8_t *bytes = rules.bytes + entry * KEPOLAS_RULE_BYTES, *left = bytes + 2, *right = bytes + 4;
+        double first = cost_of_operand(costs, entry, left), second = cost_of_operand(costs, entry, right);
+        uses[entry] = 1 + cost_of_operand(uses, entry, left) + cost_of_operand(uses, entry, right);
+        stars[entry] = (bytes[0] == 36) + cost_of_operand(stars, entry, left) + cost_of_operand(stars, entry, right);
+        costs[entry] = 1 + (bytes[0] == 36 ? rounds * first : first + second);
+        if (stars[entry] <= STARS_KEPT && rounds * uses[entry] < costs[entry]) costs[entry] = rounds * uses[entry];
+        if (costs[entry] > greatest) greatest = costs[entry];
+    }
+    return greatest;
+}
+
 double written_out(struct part query) {
     double costs[MOST_ENTRIES];
     return costs[cost_entries(costs, query, (struct prices){1, 1, 1, 1}) - 1];
@@ -69,4 +88,10 @@ double cost_of_view(const struct part parts[PARTS]) {
     double visible = 1 + records * (1 + cost_of_table(parts[FILTERS], (struct prices){1, 1, nodes, BOTH_WAYS}));
     double over = 4 * nodes * visible;
     return weight_of(nodes) * (visible + cost_of_table(parts[QUERY], (struct prices){1 + over, 1 + nodes * over, nodes, BOTH_WAYS}));
+}
+
+/* A star goes on once for each child at most, and all nodes together have no more children than there are nodes. */
+double cost_of_content(struct part roll, struct part rules) {
+    double nodes = nodes_of(roll);
+    return 8 * (cost_of_rules(rules, nodes + 1) + nodes * cost_of_rules(rules, 2));
 }

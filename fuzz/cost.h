@@ -11,6 +11,8 @@
 double cost_on_roll(struct part roll, struct part query);
 /* Of calls 4 and 6; of call 4 where the query is empty. */
 double cost_of_view(const struct part parts[PARTS]);
+/* Of the check of content. */
+double cost_of_content(struct part roll, struct part rules);
 /* How many entries there are if each that a query's last one needs is written out as often as it is used; the query is in order. */
 double written_out(struct part query);
 

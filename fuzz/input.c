@@ -70,14 +70,14 @@ static void read_as_text(struct part *part) {
 void split_input(const uint8_t *data, size_t size, struct input *input) {
     struct part located[PARTS];
     locate_parts(data, size, located);
-    input->call = 1 + data[0] % PRINTING;
+    input->call = 1 + data[0] % CONTENT;
     input->room_more = (int8_t)data[1];
     input->record = data[4] + 256u * data[5];
     for (unsigned name = 0; name < PARTS; name++) {
         size_t times = name == data[3] % PARTS ? data[3] / PARTS : 0;
         input->parts[name] = name == ROLL ? grown(located[name], times) : repeated(located[name], times);
     }
-    if (input->call == 2) return;
+    if (input->call == 2 || input->call == CONTENT) return;
     if (data[2] & 1) read_as_text(&input->parts[QUERY]);
     if (data[2] & 2) read_as_text(&input->parts[FILTERS]);
 }

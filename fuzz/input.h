@@ -2,7 +2,7 @@
  *
  * A head of 11 bytes, and behind it the parts, one behind the other:
  *
- *     0      which call: 1 and the remainder by 8; printing is 8
+ *     0      which call: 1 and the remainder by 9; printing is 8, the check of content 9
  *     1      room: so many bytes more than the call asks for, read as a signed number
  *     2      weight 1: the query part is a text, which call 2 reads first; weight 2: so is the filter part
  *     3      the remainder by 4 says which part is made longer, the quotient q by how much, for tables at their limits from short inputs:
@@ -10,7 +10,9 @@
  *     4, 5   the record asked of call 7
  *     6, 7   bytes of the roll part
  *     8      bytes of the annotation part
- *     9, 10  bytes of the filter part; what is left is the query part, which is the text of call 2 too */
+ *     9, 10  bytes of the filter part; what is left is the query part, which is the text of call 2 too
+ *
+ * The check of content has its list in the filter part, and its rule entries in the query part. */
 #ifndef FUZZ_INPUT_H
 #define FUZZ_INPUT_H
 
@@ -18,6 +20,7 @@
 #include <stdint.h>
 
 #define PRINTING 8
+#define CONTENT 9
 #define HEAD_BYTES 11
 #define PARTS 4
 enum part_name { ROLL, ANNOTATION, FILTERS, QUERY };

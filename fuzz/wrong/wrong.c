@@ -22,6 +22,8 @@ uint64_t __real_kepolas_curators_answer(const uint8_t *, size_t, const uint8_t *
 void __real_kepolas_run_of(const uint8_t *, size_t, size_t, size_t *, size_t *);
 uint64_t __real_kepolas_print_query(const uint8_t *, size_t, uint8_t *, size_t, size_t *);
 
+uint64_t __real_kepolas_check_content(const uint8_t *, size_t, const uint8_t *, size_t, const uint8_t *, size_t, size_t *);
+
 /* 1: the library is told of a record behind the roll, and reads it. 2: one node too many is counted. */
 uint64_t __wrap_kepolas_check_roll(const uint8_t *roll, size_t roll_len, size_t *told) {
     uint64_t refusal = __real_kepolas_check_roll(roll, mistake(1) ? roll_len + KEPOLAS_NODE_BYTES : roll_len, told);
@@ -156,4 +158,26 @@ uint64_t __wrap_kepolas_print_query(const uint8_t *query, size_t query_len, uint
     memcpy(room, text, *told);
     if (mistake(25) && *told < room_len) room[*told] ^= 1;
     return 0;
+}
+
+static int listed(const uint8_t *list, size_t list_len, uint8_t label) {
+    for (size_t at = 0; at + KEPOLAS_LISTED_BYTES <= list_len; at += KEPOLAS_LISTED_BYTES)
+        if (list[at] == label) return 1;
+    return 0;
+}
+
+/* 38: one node too many is counted. 39: a bad roll is refused as if the rules were bad. 40: bad rules are taken, where the roll has one node.
+ * 41: a node is refused that has no rule. 42: children are refused where there is no list. */
+uint64_t __wrap_kepolas_check_content(const uint8_t *roll, size_t roll_len, const uint8_t *rules, size_t rules_len, const uint8_t *list,
+                                      size_t list_len, size_t *told) {
+    uint64_t refusal = __real_kepolas_check_content(roll, roll_len, rules, rules_len, list, list_len, told);
+    size_t nodes = roll_len / KEPOLAS_NODE_BYTES;
+    if (mistake(38) && refusal == 0) ++*told;
+    if (mistake(39) && refusal >= KEPOLAS_ROLL_LENGTH && refusal <= KEPOLAS_PARENT_FIELD) return *told = 0, KEPOLAS_RULES_MALFORMED;
+    if (mistake(40) && refusal == KEPOLAS_RULES_MALFORMED && nodes == 1) return *told = 1, 0;
+    if (mistake(41) && refusal == KEPOLAS_CHILDREN_FORBIDDEN)
+        for (size_t node = 0; node < nodes; node++)
+            if (!listed(list, list_len, roll[KEPOLAS_NODE_BYTES * node])) *told = node;
+    if (mistake(42) && refusal == 0 && list_len == 0) return *told = 0, KEPOLAS_CHILDREN_FORBIDDEN;
+    return refusal;
 }
