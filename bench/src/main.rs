@@ -6,6 +6,7 @@
 
 mod answers;
 mod calls;
+mod content;
 mod court;
 mod curators;
 mod document;
@@ -21,11 +22,12 @@ mod tools;
 mod views;
 mod xpath;
 
-const PARTS: [(&str, fn()); 14] = [
+const PARTS: [(&str, fn()); 16] = [
     ("rolls", inputs::checking_rolls),
     ("texts", inputs::reading_texts),
     ("tables", inputs::checking_tables),
     ("printing", || print!("{}", report::printing_table(&printing::prints()))),
+    ("content", || print!("{}", report::content_table(&content::contents()))),
     ("answers", answers::answering),
     ("shared", answers::shared),
     ("views", views::cutting),
@@ -36,11 +38,13 @@ const PARTS: [(&str, fn()); 14] = [
     ("stack", stack::stack),
     ("curators-stack", stack::curators_stack),
     ("printing-stack", stack::printing_stack),
+    ("content-stack", stack::content_stack),
 ];
 
 fn figures(into_document: bool) {
-    let (calls, prints, shares) = (calls::calls(), printing::prints(), xpath::answers());
-    let (tables, picture) = (report::tables(&calls, &prints, &shares), plot::svg(&shares));
+    let (calls, prints, contents) = (calls::calls(), printing::prints(), content::contents());
+    let shares = xpath::answers();
+    let (tables, picture) = (report::tables(&calls, &prints, &contents, &shares), plot::svg(&shares));
     print!("{tables}");
     document::leave(&tables, &picture);
     if into_document {

@@ -3,6 +3,7 @@
 use std::process::Command;
 
 use crate::calls::Call;
+use crate::content::Content;
 use crate::printing::Print;
 use crate::xpath::{Answer, Share};
 
@@ -65,6 +66,18 @@ pub fn printing_table(prints: &[Print]) -> String {
     table
 }
 
+pub fn content_table(contents: &[Content]) -> String {
+    let mut table = "| roll | rule | nodes | proved, µs | ns a node | call 1, µs | second, µs | second / proved |\n\
+                     |---|---|---|---|---|---|---|---|\n"
+        .to_string();
+    for Content { name, rule, nodes, proved, roll_alone, second } in contents {
+        let for_node = 1000.0 * proved / *nodes as f64;
+        let numbers = [*proved, for_node, *roll_alone, *second, second / proved].map(number).join(" | ");
+        table += &format!("| {name} | {rule} | {nodes} | {numbers} |\n");
+    }
+    table
+}
+
 fn answer_line(answer: &Answer) -> String {
     let Answer { name, text, expression, nodes, curators, on_view, peer } = answer;
     let numbers = [*curators, *on_view, *peer, curators / peer, on_view / peer].map(number).join(" | ");
@@ -109,12 +122,13 @@ fn summary(shares: &[Share]) -> String {
     )
 }
 
-pub fn tables(calls: &[Call], prints: &[Print], shares: &[Share]) -> String {
+pub fn tables(calls: &[Call], prints: &[Print], contents: &[Content], shares: &[Share]) -> String {
     let parts: Vec<String> = shares.iter().map(share_table).collect();
     let (head, calls, printing) = (head(), calls_table(calls), printing_table(prints));
-    let (answers, summary) = (parts.join("\n"), summary(shares));
+    let (content, answers, summary) = (content_table(contents), parts.join("\n"), summary(shares));
     format!(
         "{head}\n### The calls beside the second program\n\n{calls}\n### Printing beside the second program\n\n{printing}\n\
+         ### The check of content beside the second program, and call 1 alone\n\n{content}\n\
          ### Answers beside libxml2\n\n{answers}\n{summary}"
     )
 }

@@ -1,4 +1,4 @@
-//! How much stack calls 3, 4 and 6 and printing take on the highest tables that are accepted.
+//! How much stack calls 3, 4 and 6, printing and the check of content take on the highest tables that are accepted.
 
 use std::hint::black_box;
 
@@ -101,6 +101,39 @@ pub fn stack() {
     for (name, filter_first) in [("stars of a step and a filter", false), ("stars of a filter and a step", true)] {
         let table = filtered_stars(31, 3, filter_first);
         answer_line(name, &two, &table[..table.len() - 6]);
+    }
+}
+
+/// Rules 32 high: each entry upon the one before it, in one way or in two by turns, and a root with one child whose label has the last of them.
+/// Rule entries so high, of two kinds in turn, each upon the one before and entry 0, which is a label.
+fn rule_tower(kinds: [u8; 2], height: usize) -> Vec<[u8; 6]> {
+    let above = (0..height - 1).map(|below| entry(kinds[below % 2], below, 0));
+    [[33, 2, 0, 0, 0, 0]].into_iter().chain(above).collect()
+}
+
+/// The same behind 32 stars, which leave no set for those of the tower.
+fn behind_stars(kinds: [u8; 2]) -> Vec<[u8; 6]> {
+    let mut rules = rule_tower(kinds, 31);
+    rules.push(entry(36, 0, 0));
+    (31..36).for_each(|half| rules.push(entry(34, half, half)));
+    rules.push(entry(34, 36, 30));
+    rules
+}
+
+pub fn content_stack() {
+    println!("{:<38}{:>12}{:>8}", "stack of the check of content", "bytes", "reply");
+    let roll = [1, 0, 255, 255, 2, 0, 0, 0];
+    let rules = [
+        ("in turn", rule_tower([34, 34], 32)),
+        ("either", rule_tower([35, 35], 32)),
+        ("stars", rule_tower([36, 36], 32)),
+        ("stars of either", rule_tower([35, 36], 32)),
+        ("stars behind 32 stars", behind_stars([36, 36])),
+        ("stars of either behind 32 stars", behind_stars([35, 36])),
+    ];
+    for (name, rules) in rules {
+        let list = [1, 0, (rules.len() - 1) as u8, 0];
+        stack_line(name, || compare::check_content(&roll, &rules.concat(), &list));
     }
 }
 
