@@ -24,7 +24,7 @@ others-stay [] v = refl
 others-stay (first ∷ others) v = refl
 
 -- what was lent from the a-th to the end comes back behind the first a
-pub comes-back : (a : ℕ) (kept others : Kept) → putMid a (length kept - a) kept others ≡ take a kept ++ others
+comes-back : (a : ℕ) (kept others : Kept) → putMid a (length kept - a) kept others ≡ take a kept ++ others
 comes-back a kept others =
     let none : length (drop a kept) ≤ length kept - a = omega (arith, length-drop a kept) in
     ap (λ (rest : Kept). take a kept ++ (others ++ rest)) (drop-of-length-le (drop a kept) none)

@@ -2,10 +2,11 @@
 use Prim.Native.Nat.{ℕ, _+_, _*_, _<_, min}
 use native.Mathlib.Omega.{arith}
 use mathlib.Core.Path.{_≡_, refl, sym, ap, subst, _∙_}
-use mathlib.Core.Logic.{_↔_, inr, ⊎-elim}
+use mathlib.Core.Logic.{_↔_, _⊎_, inl, inr, ⊎-elim, ⊎-map}
 use mathlib.Core.List.{List}
 use lib.ListN.{length, getD}
-use Rattle.query.specs.Table.{Entries, entryAt}
+use Rattle.reply.specs.Bytes.{Bytes}
+use Rattle.query.specs.Table.{Entries, entries, entryAt}
 use Rattle.sets.specs.Sets.{In, Holds, Image, Inside}
 use Rattle.tables.specs.Fields.{Fields}
 use Rattle.tables.specs.declared.entry.Entry.{Entry}
@@ -14,10 +15,10 @@ use Rattle.steps.proofs.Adding.{holds-more}
 use Rattle.rules.specs.Language.{Expression, Word, InLanguage, empty, one, then, either, star}
 use Rattle.rules.specs.Table.{expressionAt}
 use Rattle.rules.proofs.Standing as standing
-use Rattle.rules.proofs.Standing.{Stands}
+use Rattle.rules.proofs.Standing.{Stands, stands}
 use Rattle.matching.specs.Spans.{Spans, Used}
-use Rattle.matching.specs.Settled.{Counted, Kept, share, Passed}
-use Rattle.matching.proofs.Spanning.{spans-whole}
+use Rattle.matching.specs.Settled.{Counted, Asked, Kept, share, Passed}
+use Rattle.matching.proofs.Spanning.{spans-then, spans-either, spans-whole}
 
 -- ---- an entry that is read
 
@@ -64,6 +65,22 @@ module _ {es : Entries} {e : ℕ} where
     is-empty (one-of-two m) a b c d = absurd (c refl)
     is-empty (any-times l is) a b c d = absurd (d refl)
 
+-- ---- what is asked
+
+module _ {rules : Bytes} {counts : List ℕ} {e : ℕ} {w : Word} {set : List ℕ} (asked : Asked rules counts e w set) where
+  -- what the entry stands for, by the number of its kind that was read
+  pub asked-means : {read : Entry} → Fields (entryAt (entries rules) e) read
+      → Means (entries rules) e (read .label) (read .left) (read .right) (read .kind)
+  asked-means f = means (stands (entries rules) e (asked .entry) (asked .right e (asked .entry))) f
+
+  -- another entry is asked, of other places
+  pub ask-of : {x : ℕ} {places : List ℕ} → x < length (entries rules) → Inside (length w + 1) places → Asked rules counts x w places
+  ask-of l inside = record { right = asked .right; counted = asked .counted; entry = l; short = asked .short; places = inside }
+
+  -- an earlier one
+  pub ask-before : {x : ℕ} {places : List ℕ} → x < e → Inside (length w + 1) places → Asked rules counts x w places
+  ask-before l inside = ask-of (omega (arith, asked .entry)) inside
+
 -- ---- the sets that are kept
 
 -- the stars of an entry are counted, and so many sets go to it
@@ -78,12 +95,51 @@ module _ {es : Entries} {counts : List ℕ} (counted : Counted es counts) {x : �
 
 module _ {w : Word} where
   -- every place that is reached is in the word
+  pub reached-inside : {x : Expression} {set r : List ℕ} → Image (Spans x w) set r → Inside (length w + 1) r
+  reached-inside f q x = let (p, y, s) = f .exact q .0 x in omega (arith, s .within)
+
   pub led-inside : {x : Expression} {kept kept′ : Kept} {set r : List ℕ} → Passed x w kept set kept′ r → Inside (length w + 1) r
   led-inside f q x = let (p, y, s) = f .led q x in omega (arith, s .within)
 
   -- places in the word are in the words of a set that hold them all
   pub in-front : {n : ℕ} {set : List ℕ} → Used w n → Inside (length w + 1) set → Inside (64 * n) set
   in-front used inside k x = omega (arith, used .enough, inside k x)
+
+-- ---- where each kind leads from a set, for what is asked once
+
+module _ {w : Word} {set : List ℕ} where
+  -- from no place nothing is reached
+  pub once-none : {x : Expression} → ((k : ℕ) → ¬ In set k) → Image (Spans x w) set set
+  once-none none = record { exact = λ q. (λ x. absurd (none q x), λ (p, x, s). absurd (none p x)) }
+
+  pub once-then : {a b : Expression} {half r : List ℕ} → Image (Spans a w) set half → Image (Spans b w) half r
+      → Image (Spans (then a b) w) set r
+  once-then f g = record {
+    exact = λ q. (
+      λ x. let (k, y, t) = g .exact q .0 x in let (p, z, s) = f .exact k .0 y in (p, z, spans-then p q .1 (k, s, t)),
+      λ (p, x, s). let (k, t, u) = spans-then p q .0 s in g .exact q .1 (k, f .exact k .1 (p, x, t), u),
+    );
+  }
+
+  pub once-either : {a b : Expression} {first second r : List ℕ} → Image (Spans a w) set first → Image (Spans b w) set second
+      → Holds (λ k. In first k ⊎ In second k) r → Image (Spans (either a b) w) set r
+  once-either f g all = record {
+    exact = λ q. (
+      λ x. ⊎-elim (λ y. let (p, z, s) = f .exact q .0 y in (p, z, spans-either p q .1 (inl s)))
+          (λ y. let (p, z, s) = g .exact q .0 y in (p, z, spans-either p q .1 (inr s)))
+          (all .exact q .0 x),
+      λ (p, x, s). all .exact q .1 (⊎-map (λ t. f .exact q .1 (p, x, t)) (λ t. g .exact q .1 (p, x, t)) (spans-either p q .0 s)),
+    );
+  }
+
+  -- either of one and the same is that one
+  pub once-same : {a b : Expression} {r : List ℕ} → a ≡ b → Image (Spans a w) set r → Image (Spans (either a b) w) set r
+  once-same e f = record {
+    exact = λ q. (
+      λ x. let (p, y, s) = f .exact q .0 x in (p, y, spans-either p q .1 (inl s)),
+      λ (p, x, s). f .exact q .1 (p, x, ⊎-elim (λ t. t) (λ t. rw e t) (spans-either p q .0 s)),
+    );
+  }
 
 -- ---- the place before the word
 

@@ -28,7 +28,7 @@ pub in-those : (A : Places) (set : List ℕ) (k : ℕ) → T (and-those A set k)
 unfolding and-those members
 in-those A set k = or-test (passes (A k)) (in-test set k) .exact
 
-abbrev pub Among : Places → Places → Type 0
+abbrev Among : Places → Places → Type 0
 Among A B = (k : ℕ) → T (A k) → T (B k)
 
 -- a set without members adds none

@@ -37,8 +37,8 @@ fn words_of(word: &[u8]) -> usize
     if word.len() < 64 { 1 } else { 64 }
 }
 
-// Where words of entry e end that begin at a place of the set, written over the set. Of those that were found before, from what is
-// kept of its stars, none has to be among them.
+// Where words of entry e end that begin at a place of the set, written over the set. An entry in a star is asked more than once: where it
+// led from the places that it was asked of before need not be found again, and `kept` has what its stars have reached so far.
 fn pass(
     rules: &[u8],
     counts: &[usize],
@@ -136,14 +136,6 @@ fn go_on_alone(rules: &[u8], counts: &[usize], e: usize, word: &[u8], set: &mut 
     go_on(rules, counts, e, word, &mut own, set);
 }
 
-// Whether a place is in the set.
-fn is_reached(set: &[u64; 64], place: usize) -> bool
-    requires { ⌜ place < 4096 ⌝ }
-    ensures { λ r. ⌜ T r ↔ In (now (set .entry)) place ⌝ }
-{
-    has(set, place)
-}
-
 // Takes all members out of the sets.
 fn clear(kept: &mut [[u64; 64]])
     ensures { λ _. ⌜ Cleared (now (kept .exit)) ⌝ }
@@ -156,7 +148,72 @@ fn clear(kept: &mut [[u64; 64]])
     }
 }
 
-// Whether the word is in the language of what entry e stands for. What is reached by its stars is kept in `kept`.
+// The same for an entry that stands in no star. It is asked once, so that nothing has to be kept of it, and the sets serve one of its stars
+// after the other, each with those inside it.
+fn pass_once(
+    rules: &[u8],
+    counts: &[usize],
+    e: usize,
+    word: &[u8],
+    kept: &mut [[u64; 64]],
+    set: &mut [u64; 64],
+)
+    requires { ⌜ Asked (now rules) (now counts) e (now word) (now set) ⌝ }
+    ensures { λ _. ⌜ Image (Spans (expressionAt (entries (now (rules .entry))) e) (now (word .entry))) (now (set .entry)) (now (set .exit)) ⌝ }
+{
+    if is_front_empty(set, words_of(word)) {
+        return;
+    }
+    let entry = entry_at(rules, e);
+    let kind = entry.kind;
+    let left = entry.left;
+    let right = entry.right;
+    match kind {
+        THEN => {
+            pass_once(rules, counts, left, word, kept, set);
+            pass_once(rules, counts, right, word, kept, set);
+        }
+        EITHER => either_once(rules, counts, left, right, word, kept, set),
+        _ => {
+            let n = share(counts, e, kept.len());
+            clear(&mut kept[..n]);
+            pass(rules, counts, e, word, &mut kept[..n], set);
+        }
+    }
+}
+
+// The same for either of two such entries.
+fn either_once(
+    rules: &[u8],
+    counts: &[usize],
+    left: usize,
+    right: usize,
+    word: &[u8],
+    kept: &mut [[u64; 64]],
+    set: &mut [u64; 64],
+)
+    requires { ⌜ Asked (now rules) (now counts) left (now word) (now set) ⌝ }
+    requires { ⌜ right < length (entries (now rules)) ⌝ }
+    ensures { λ _. ⌜ (let es = entries (now (rules .entry)) in Image (Spans (either (expressionAt es left) (expressionAt es right)) (now (word .entry))) (now (set .entry)) (now (set .exit))) ⌝ }
+{
+    let mut other = *set;
+    pass_once(rules, counts, left, word, kept, set);
+    if left != right {
+        pass_once(rules, counts, right, word, kept, &mut other);
+        add_front(set, &other, words_of(word));
+    }
+}
+
+// Whether a place is in the set.
+fn is_reached(set: &[u64; 64], place: usize) -> bool
+    requires { ⌜ place < 4096 ⌝ }
+    ensures { λ r. ⌜ T r ↔ In (now (set .entry)) place ⌝ }
+{
+    has(set, place)
+}
+
+// Whether the word is in the language of what entry e stands for. What its stars reach is kept in `kept`, whatever stood there before; with
+// fewer sets than stars it takes longer.
 pub fn matches(
     rules: &[u8],
     counts: &[usize],
@@ -170,10 +227,8 @@ pub fn matches(
     requires { ⌜ length (now word) < 4096 ⌝ }
     ensures { λ r. ⌜ T r ↔ InLanguage (expressionAt (entries (now (rules .entry))) e) (now (word .entry)) ⌝ }
 {
-    let n = share(counts, e, kept.len());
-    clear(&mut kept[..n]);
     let mut set = empty();
     add(&mut set, 0);
-    pass(rules, counts, e, word, &mut kept[..n], &mut set);
+    pass_once(rules, counts, e, word, kept, &mut set);
     is_reached(&set, word.len())
 }

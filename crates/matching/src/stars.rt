@@ -1,4 +1,4 @@
-// How many stars the entries of a table have, which is how many sets are kept for them.
+// How many stars an entry has, counted as often as they are used, and at most 32: so many sets are kept for them.
 use reply::RULE_ENTRIES;
 use rules::EITHER;
 use rules::STAR;
@@ -29,7 +29,7 @@ pub(crate) fn share(counts: &[usize], e: usize, sets: usize) -> usize
     lower(counts[e], sets)
 }
 
-// How many stars entry i has, where those of the entries before are known.
+// The stars of entry i, where those of the entries before are known.
 fn stars_of(counts: &[usize], rules: &[u8], i: usize) -> usize
     requires { ⌜ (i < length (entries (now rules))) × (i < length (now counts)) ⌝ }
     requires { ⌜ EntryRight (entries (now rules)) i ⌝ }
@@ -47,7 +47,7 @@ fn stars_of(counts: &[usize], rules: &[u8], i: usize) -> usize
     }
 }
 
-// The number of stars of each entry.
+// The stars of each entry.
 pub fn count_stars(rules: &[u8]) -> [usize; RULE_ENTRIES]
     requires { ⌜ length (entries (now rules)) ≤ 256 ⌝ }
     requires { ⌜ ((i : ℕ) → i < length (entries (now rules)) → EntryRight (entries (now rules)) i) ⌝ }

@@ -1,8 +1,7 @@
 -- What an entry in order stands for: the expression of its kind, over what its operands stand for. So nobody who goes through a table
 -- unfolds how it is read. Assumes nothing.
 use Prim.Native.Nat.{ℕ, _<_}
-use native.Mathlib.Omega.{arith}
-use mathlib.Core.Path.{_≡_, refl, ap, ap₂, _∙_}
+use mathlib.Core.Path.{_≡_, ap, ap₂, _∙_}
 use mathlib.Core.List.{List, []}
 use lib.ListN.{length, getD, take}
 use lib.Seq.{getD-take}

@@ -12,9 +12,9 @@ use Rattle.matching.proofs.clear.Tie as tie
 
 -- where the loop stands before set i
 record Standing (n : ℕ) (kept : Kept) (i : ℕ) : Type 0 where
-  within : i ≤ n
-  long : length kept ≡ n
   emptied : EmptyTo kept i
+  long : length kept ≡ n
+  within : i ≤ n
 
 abbrev Inv-loop : tie.InvT-loop
 Inv-loop kept₀ n i₀ kept i = Standing n kept i
@@ -23,7 +23,7 @@ abbrev μ-loop : tie.MeasureT-loop
 μ-loop kept₀ n i₀ kept i = n - i
 
 loop-holds : tie.Need-loop-holds Inv-loop μ-loop
-loop-holds c = record { within = omega arith; long = refl; emptied = below-none _ }
+loop-holds c = record { emptied = below-none _; long = refl; within = omega arith }
 
 empty-requires : tie.Need-empty-requires Inv-loop μ-loop
 empty-requires c κs = search needs
@@ -44,9 +44,9 @@ loop-again : tie.Need-loop-again Inv-loop μ-loop
 loop-again c =
     let loop = c .before .before .loop in
     record {
-      within = omega arith;
-      long = simp length-set (loop .inv .long);
       emptied = one-emptied (loop .kept) (loop .inv .emptied) (omega arith) (c .empty .ensures);
+      long = simp length-set (loop .inv .long);
+      within = omega arith;
     }
 
 same-length : tie.Need-same-length Inv-loop μ-loop

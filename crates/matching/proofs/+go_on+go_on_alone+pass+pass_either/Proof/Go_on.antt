@@ -14,7 +14,7 @@ use Rattle.sets.specs.Sets.{Inside}
 use Rattle.rules.specs.Table.{expressionAt}
 use Rattle.matching.specs.Spans.{Used}
 use Rattle.matching.specs.Settled.{Asked}
-use Rattle.matching.proofs.Passing.{led-inside, in-front}
+use Rattle.matching.proofs.Passing.{ask-of, led-inside, in-front}
 use Rattle.matching.proofs.Rounds.{left, found-inside}
 use Rattle.matching.proofs.Keeping.{Standing, begins, goes-on, goes-less, ends}
 use Rattle.matching.proofs.+go_on+go_on_alone+pass+pass_either.Proof.Measures.{μ-go-on, μ-pass}
@@ -102,10 +102,8 @@ module _ (t : ℕ) where
   pass-requires : lts.Need-pass-requires (claims t) (own t) go-on.Post Inv-loop μ-loop
   pass-requires c κs =
       let head = c .before .before .before .before .before in
-      let asks = asked (first head) in (
-        omega (arith, start (first head) .pre .0),
-        record { right = asks .right; counted = asks .counted; entry = asks .entry; short = asks .short; places = places-new head },
-      )
+      let asks = asked (first head) in
+      (omega (arith, start (first head) .pre .0), ask-of asks (asks .entry) (places-new head))
 
   take-front-requires-2 : lts.Need-take-front-requires-2 (claims t) (own t) go-on.Post Inv-loop μ-loop
   take-front-requires-2 c κs =

@@ -13,13 +13,12 @@ use Rattle.query.specs.Table.{Entries, entries}
 use Rattle.sets.specs.Sets.{Inside}
 use Rattle.rules.specs.Language.{then}
 use Rattle.rules.specs.Table.{expressionAt}
-use Rattle.rules.proofs.Standing.{stands}
 use Rattle.matching.specs.Spans.{Used}
 use Rattle.matching.specs.Settled.{Asked}
 use Rattle.matching.proofs.Settling.{pass-none, pass-empty, pass-one, pass-alone, pass-then}
 use Rattle.matching.proofs.Keeping.{Divided, divided, as-many-back}
-use Rattle.matching.proofs.Passing.{Made, Means, means, is-one, is-then, is-either, is-star, is-empty}
-use Rattle.matching.proofs.Passing.{has-count, shared-out, led-inside, in-front}
+use Rattle.matching.proofs.Passing.{Made, Means, is-one, is-then, is-either, is-star, is-empty}
+use Rattle.matching.proofs.Passing.{asked-means, ask-before, has-count, shared-out, led-inside, in-front}
 use Rattle.matching.proofs.+go_on+go_on_alone+pass+pass_either.Proof.Measures.{μ-go-on, μ-go-on-alone, μ-pass, μ-pass-either}
 use Rattle.matching.proofs.+go_on+go_on_alone+pass+pass_either.Lts-pass as lts
 use Rattle.matching.proofs.go_on.Reads as go-on
@@ -93,7 +92,7 @@ module _ (t : ℕ) where
     Known = Means es (start .args .e) (c .entry-at .result .label) (c .entry-at .result .left) (c .entry-at .result .right)
 
     read : Known (c .entry-at .result .kind)
-    read = means (stands es (start .args .e) (asked .entry) (asked .right (start .args .e) (asked .entry))) (c .entry-at .ensures)
+    read = asked-means asked (c .entry-at .ensures)
 
     -- it is of the kind that was matched
     of-kind : {kind : ℕ} → c .entry-at .result .kind ≡ kind → Known kind
@@ -106,16 +105,7 @@ module _ (t : ℕ) where
     -- an operand is asked of places in the word: thrice its number, and two more for a star's rounds, is below thrice the entry's
     ask : {x : ℕ} {set : List ℕ} → x < start .args .e → Inside (length (now (start .args .word)) + 1) set
         → (3 * x + 2 < t) × Asked (now (start .args .rules)) (now (start .args .counts)) x (now (start .args .word)) set
-    ask l inside = (
-      omega (arith, start .pre .0),
-      record {
-        right = asked .right;
-        counted = asked .counted;
-        entry = omega (arith, asked .entry);
-        short = asked .short;
-        places = inside;
-      },
-    )
+    ask l inside = (omega (arith, start .pre .0), ask-before asked l inside)
 
     ask-below : {x : ℕ} {set : List ℕ} → x < start .args .e → Inside (length (now (start .args .word)) + 1) set
         → (3 * x < t) × Asked (now (start .args .rules)) (now (start .args .counts)) x (now (start .args .word)) set

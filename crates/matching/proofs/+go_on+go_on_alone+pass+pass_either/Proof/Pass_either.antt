@@ -13,7 +13,7 @@ use Rattle.rules.specs.Table.{expressionAt}
 use Rattle.matching.specs.Settled.{Asked, Kept, share}
 use Rattle.matching.proofs.Settling.{pass-either, pass-same}
 use Rattle.matching.proofs.Keeping.{Divided, divided, undivided, as-many, as-many-back}
-use Rattle.matching.proofs.Passing.{has-count, shared-out, led-inside, in-front}
+use Rattle.matching.proofs.Passing.{ask-of, has-count, shared-out, led-inside, in-front}
 use Rattle.matching.proofs.+go_on+go_on_alone+pass+pass_either.Proof.Measures.{μ-pass, μ-pass-either}
 use Rattle.matching.proofs.+go_on+go_on_alone+pass+pass_either.Lts-pass_either as lts
 use Rattle.matching.proofs.pass.Reads as pass
@@ -79,16 +79,7 @@ module _ (t : ℕ) where
   pass-requires-2 : lts.Need-pass-requires-2 (claims t) (own t) either.Post
   pass-requires-2 c κs =
       let told = told-first (c .before .before .before .before) in
-      let asks = asked told in (
-        omega (arith, start told .pre .0),
-        record {
-          right = asks .right;
-          counted = asks .counted;
-          entry = start told .pre .1 .1;
-          short = asks .short;
-          places = asks .places;
-        },
-      )
+      (omega (arith, start told .pre .0), ask-of (asked told) (start told .pre .1 .1) (asked told .places))
 
   -- the second is passed too, with the other sets
   module _ (c : lts.After-pass2 (claims t) (own t) either.Post) where
