@@ -48,8 +48,8 @@ static double cost_of_table(struct part table, struct prices prices) {
     return greatest;
 }
 
-/* What is kept of so many stars at most: those are gone on from once for each place in all, and stars behind them once for each round of
- * the star around them. */
+/* What is kept of so many stars at most in one star, itself among them: those are gone on from once for each place in all, and stars behind
+ * them once for each round of the star around them. */
 #define STARS_KEPT 32
 
 /* The cost of the dearest rule entry, where a star takes so many rounds. */

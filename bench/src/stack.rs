@@ -111,12 +111,12 @@ fn rule_tower(kinds: [u8; 2], height: usize) -> Vec<[u8; 6]> {
     [[33, 2, 0, 0, 0, 0]].into_iter().chain(above).collect()
 }
 
-/// The same behind 32 stars, which leave no set for those of the tower.
+/// The same behind 32 stars, all in one star, which leave no set for those of the tower.
 fn behind_stars(kinds: [u8; 2]) -> Vec<[u8; 6]> {
-    let mut rules = rule_tower(kinds, 31);
+    let mut rules = rule_tower(kinds, 30);
     rules.push(entry(36, 0, 0));
-    (31..36).for_each(|half| rules.push(entry(34, half, half)));
-    rules.push(entry(34, 36, 30));
+    (30..35).for_each(|half| rules.push(entry(34, half, half)));
+    rules.extend([entry(34, 35, 29), entry(36, 36, 0)]);
     rules
 }
 

@@ -4,7 +4,7 @@ use second::table::{heights, read_filters, read_query, Limits, CURATORS_QUERY, E
 use second::Reply;
 
 use crate::annotated::Annotated;
-use crate::rules::{heights_of, stars_of, HEIGHT, MOST_ENTRIES, MOST_LISTED};
+use crate::rules::{heights_of, stars_of, Stars, HEIGHT, MOST_ENTRIES, MOST_LISTED};
 use crate::same::{PRINT_ROOM, TEXT_ROOM};
 use crate::seen::{outcome, Kind, Seen};
 
@@ -117,7 +117,7 @@ pub const OF_CONTENT: &[Kind] = &[
     (0, "the highest rule entry"),
     (0, "the most list records"),
     (0, "a rule with stars inside stars"),
-    (0, "a rule with more than 32 stars"),
+    (0, "more than 32 stars in one"),
 ];
 
 /// The room of a call that has one: too short, as long as is named for it, or longer. Other refusals say nothing of it.
@@ -261,13 +261,13 @@ pub fn note_content(seen: &mut Seen, (number, place): (u8, usize), rules: &[u8],
         21 => seen.note_place(21, place, 100, ["a node", "a late node"]),
         _ => note_roll(seen, (number, place)),
     }
-    if number == 21 && listed_stars(rules, list).any(|(_, deep)| deep > 1) {
+    if number == 21 && listed_stars(rules, list).any(|stars| stars.deep > 1) {
         seen.note(21, "by a rule with stars inside stars");
     }
 }
 
 /// The stars of the rules that are listed.
-fn listed_stars<'a>(rules: &[u8], list: &'a [u8]) -> impl Iterator<Item = (u64, usize)> + 'a {
+fn listed_stars<'a>(rules: &[u8], list: &'a [u8]) -> impl Iterator<Item = Stars> + 'a {
     let stars = stars_of(rules);
     list.chunks_exact(4).map(move |record| stars[usize::from(record[2]) + 256 * usize::from(record[3])])
 }
@@ -287,10 +287,10 @@ pub fn note_followed(seen: &mut Seen, rules: &[u8], list: &[u8], great: bool) {
     if list.len() == 4 * MOST_LISTED {
         seen.note(0, "the most list records");
     }
-    if listed_stars(rules, list).any(|(_, deep)| deep > 1) {
+    if listed_stars(rules, list).any(|stars| stars.deep > 1) {
         seen.note(0, "a rule with stars inside stars");
     }
-    if listed_stars(rules, list).any(|(stars, _)| stars > 32) {
-        seen.note(0, "a rule with more than 32 stars");
+    if listed_stars(rules, list).any(|stars| stars.in_one > 32) {
+        seen.note(0, "more than 32 stars in one");
     }
 }

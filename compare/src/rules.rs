@@ -167,15 +167,29 @@ pub fn heights_of(rules: &[u8]) -> Vec<usize> {
     read.heights
 }
 
-/// How many stars each entry has, counted as often as they are used, and how many at most stand inside one another.
-pub fn stars_of(rules: &[u8]) -> Vec<(u64, usize)> {
-    let mut stars: Vec<(u64, usize)> = Vec::new();
+/// The stars of an entry, counted as often as they are used: all of them, the most in one of them with itself, and the most inside one another.
+#[derive(Clone, Copy, Default)]
+pub struct Stars {
+    pub all: u64,
+    pub in_one: u64,
+    pub deep: usize,
+}
+
+pub fn stars_of(rules: &[u8]) -> Vec<Stars> {
+    let mut stars: Vec<Stars> = Vec::new();
     for entry in rules.chunks_exact(6) {
         let of = |at: usize| stars[usize::from(entry[at]) + 256 * usize::from(entry[at + 1])];
         let own = match entry[0] {
-            THEN | EITHER => (of(2).0.saturating_add(of(4).0), of(2).1.max(of(4).1)),
-            STAR => (of(2).0.saturating_add(1), of(2).1 + 1),
-            _ => (0, 0),
+            THEN | EITHER => {
+                let (left, right) = (of(2), of(4));
+                let all = left.all.saturating_add(right.all);
+                Stars { all, in_one: left.in_one.max(right.in_one), deep: left.deep.max(right.deep) }
+            }
+            STAR => {
+                let all = of(2).all.saturating_add(1);
+                Stars { all, in_one: all, deep: of(2).deep + 1 }
+            }
+            _ => Stars::default(),
         };
         stars.push(own);
     }

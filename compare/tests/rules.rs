@@ -82,7 +82,7 @@ fn stars_inside_stars_on_long_words() {
         while word.len() < length {
             word.extend(if chance.one_in(2) { &one } else { &other });
         }
-        many += usize::from(stars_of(&rules.bytes)[any].0 > 32);
+        many += usize::from(stars_of(&rules.bytes)[any].in_one > 32);
         for behind in [&[][..], &[2], &[3]] {
             match same::check_content(&family(&[&word, behind].concat()), &rules.bytes, &listed(1, any)) {
                 Reply::Count(_) => taken += 1,
