@@ -1,4 +1,7 @@
 // Call 3: a query is answered on a roll, and a set of nodes is given as a bitmap.
+
+#![tactic(auto)]
+
 ghost use Rattle.std.specs.Prelude.{◌≡◌, ◌≤◌, ◌<◌, length};
 ghost use Rattle.reply.specs.Reply.{said};
 ghost use Rattle.roll.specs.Roll.{nodes, Roll};

@@ -1,1 +1,3 @@
 // The worked cases of the definitions: no code.
+
+#![tactic(auto)]

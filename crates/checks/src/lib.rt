@@ -1,4 +1,7 @@
 // The checks that come before a call's work: the annotation's, and those of several inputs in turn.
+
+#![tactic(auto)]
+
 mod annotation;
 mod check;
 mod ready;

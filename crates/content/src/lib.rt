@@ -1,4 +1,7 @@
 // The check of a roll's content: every node's child labels, in order, are in the language of the rule that its label has.
+
+#![tactic(auto)]
+
 mod named;
 
 ghost use Rattle.std.specs.Prelude.{◌↔◌, ℕ, ◌<◌, T, length, get_or};

@@ -1,5 +1,8 @@
 // Call 6: the curator's query is answered through the rewritten query on the roll, and the records that it reaches are turned into view
 // positions. No view is cut out on the way.
+
+#![tactic(auto)]
+
 mod on_roll;
 mod place;
 

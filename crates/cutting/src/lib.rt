@@ -1,5 +1,8 @@
 // Call 4: the view is cut out in one scan. Each record passed keeps its place, which is its own view position or, where it is hidden, its
 // parent's place, so the nearest visible ancestor of a node is found at its parent, without a climb.
+
+#![tactic(auto)]
+
 mod node;
 
 ghost use Rattle.std.specs.Prelude.{◌+◌, ◌*◌, ◌≤◌, ◌<◌, ◌≡◌, length, drop};

@@ -1,5 +1,8 @@
 // The program: roll.rec, view.rec (the annotation) and filters.rec are read from the folder that it is run in, and each line of standard
 // input is a query text, answered by a line on standard output. It only moves bytes: what a line is answered by is proved in `line`.
+
+#![tactic(auto)]
+
 mod file;
 mod line;
 mod stream;

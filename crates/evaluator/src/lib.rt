@@ -1,5 +1,8 @@
 // Paths and filters on sets of nodes: a path takes a set to its image, and a filter narrows a set to the nodes where it holds. The two
 // call each other, and the entry number falls. Of one filter, of number `known`, the nodes where it holds may be known beforehand: `held`.
+
+#![tactic(auto)]
+
 mod at_hand;
 mod course;
 mod kinds;

@@ -1,4 +1,7 @@
 // The lines of the program: the bytes of an output line.
+
+#![tactic(auto)]
+
 mod number;
 mod reply_line;
 

@@ -1,5 +1,8 @@
 // The links of a roll: the next sibling of every record and, 4,096 places behind it, the previous one. All are worked out once in one scan,
 // since the climb gives both.
+
+#![tactic(auto)]
+
 ghost use Rattle.std.specs.Prelude.{◌≡◌, replicate};
 ghost use Rattle.roll.specs.Roll.{nodes, Roll};
 ghost use Rattle.links.specs.Links.{Siblings};

@@ -1,4 +1,7 @@
 // A word is matched against a rule entry, on sets of places in the word: an expression takes a set to where its words end.
+
+#![tactic(auto)]
+
 mod label;
 mod stars;
 

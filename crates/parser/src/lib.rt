@@ -1,5 +1,8 @@
 // The readers of paths and filters, which call each other through brackets. Each reads from the place `at` with `depth` brackets open, and
 // writes the entries of what it reads behind the `count` entries of the table.
+
+#![tactic(auto)]
+
 ghost use Rattle.std.specs.Prelude.{◌≡◌, get_or};
 ghost use Rattle.derivation.proofs.Parts.{opening_byte};
 ghost use Rattle.tokens.specs.Reading.{RoomAhead, Follows, paths, filters, items, atoms, terms, brackets};

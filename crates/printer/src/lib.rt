@@ -1,4 +1,7 @@
 // A query table is printed as text. The text is written into a local buffer, and the lent room only once all of it fits.
+
+#![tactic(auto)]
+
 mod entries;
 mod kinds;
 mod symbols;

@@ -1,5 +1,8 @@
 // Call 2: a query text is read into a table of entries. The text is parsed into a local table, and the lent room is written only once
 // everything is accepted.
+
+#![tactic(auto)]
+
 mod stars;
 
 ghost use Rattle.std.specs.Prelude.{◌*◌, ◌≤◌, ◌≡◌, length};

@@ -1,5 +1,8 @@
 // A reply carries either a count or a refusal's number with its place. And bytes as numbers, which every record is made of.
 // Which number a reason has is said in specs/Reply.antt.
+
+#![tactic(auto)]
+
 mod limits;
 
 ghost use Rattle.std.specs.Prelude.{◌≡◌, ◌+◌, ◌<◌, ◌≤◌, length};

@@ -1,5 +1,8 @@
 // Call 5: a curator's query is rewritten to one that does on the roll what hers does on the view. The lent room is written only once every
 // check has passed.
+
+#![tactic(auto)]
+
 ghost use Rattle.std.specs.Prelude.{◌≡◌, ◌*◌, ◌≤◌, length, take};
 ghost use Rattle.reply.specs.Reply.{said};
 ghost use Rattle.query.specs.Fault.{curators, Query};

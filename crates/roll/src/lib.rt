@@ -1,4 +1,7 @@
 // Rolls: node tables read, checked, and cut into runs.
+
+#![tactic(auto)]
+
 mod climb;
 mod node;
 mod previous;

@@ -1,4 +1,7 @@
 // Rule entries and their list are checked.
+
+#![tactic(auto)]
+
 mod entries;
 mod list;
 

@@ -1,5 +1,7 @@
 // Content rules, request Q-3: definitions and laws, and the numbers of the kinds of rule entries.
 
+#![tactic(auto)]
+
 // "kinds 32 to 36 for empty, one label, one after another, either, zero or more"
 pub const EMPTY: usize = 32;
 

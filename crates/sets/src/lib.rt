@@ -1,4 +1,7 @@
 // Sets of nodes, by value: 64 words of 64 bits, node k the bit of weight 2^(k mod 64) in word k div 64.
+
+#![tactic(auto)]
+
 mod bitmap;
 mod build;
 mod merge;

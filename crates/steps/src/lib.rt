@@ -1,5 +1,8 @@
 // Steps from the members of a set: along an axis, and to where a label is. A step costs in proportion to the nodes it starts from
 // and reaches, not to the roll, and so does a star, which goes on from each node once.
+
+#![tactic(auto)]
+
 mod along;
 mod axis;
 mod label;

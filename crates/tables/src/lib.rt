@@ -1,4 +1,7 @@
 // Query tables and filter tables: what stands in an entry, and the check of a whole table.
+
+#![tactic(auto)]
+
 mod check;
 mod entry;
 mod height;

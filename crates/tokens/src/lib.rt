@@ -1,4 +1,7 @@
 // What the readers of a text are made of: bytes, labels and brackets that are read, and the entries that are written for them.
+
+#![tactic(auto)]
+
 mod answer;
 mod entry;
 mod kind;

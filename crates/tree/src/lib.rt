@@ -1,4 +1,7 @@
 // Trees in document order: definitions and laws, and the one test of a label.
+
+#![tactic(auto)]
+
 ghost use Rattle.std.specs.Prelude.{◌↔◌, T};
 ghost use Rattle.tree.specs.Tree.{Label};
 

@@ -1,5 +1,8 @@
 // Which nodes of a roll are visible: each record's filter is answered on the whole roll, and one pass in document order looks up each
 // node's pair or hands on what its parent has.
+
+#![tactic(auto)]
+
 mod answers;
 mod index;
 mod shown;

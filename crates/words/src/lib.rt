@@ -1,4 +1,7 @@
 // The words of a roll's nodes: the labels of their children, in order.
+
+#![tactic(auto)]
+
 ghost use Rattle.std.specs.Prelude.{◌<◌, length};
 ghost use Rattle.tree.specs.Tree.{Next};
 ghost use Rattle.roll.specs.Roll.{nodes, Roll};

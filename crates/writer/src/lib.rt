@@ -1,4 +1,7 @@
 // The writer of rewritten entries: it writes what stands behind the filter table's entries, into the part of the room that begins there.
+
+#![tactic(auto)]
+
 mod entry;
 // public for a wrong build of call 5 that writes the filter table by it: crate rewrite, must-fail edit annotation_rewritten
 pub mod moved;
