@@ -64,12 +64,12 @@ one_of c (x ∷ these) =
 
 -- a digit of a label, and a second one where the two make a label
 second_digit : (d : ℕ) → 1 ≤ d → d ≤ 9 → (b : Bytes) → Reading (LabelReads ((48 + d) ∷ b))
-second_digit d low high [] = read (got d []) (LabelReads.one-digit low high NoSecond.ended)
+second_digit d low high [] = read (got d []) (LabelReads.one_digit low high NoSecond.ended)
 second_digit d low high (c ∷ b) =
     elim (dec_lt c 48) [
-      | yes l ↦ read (got d (c ∷ b)) (LabelReads.one-digit low high (NoSecond.too-low l))
+      | yes l ↦ read (got d (c ∷ b)) (LabelReads.one_digit low high (NoSecond.too_low l))
       | no n ↦ elim (dec_lt 57 c) [
-        | yes g ↦ read (got d (c ∷ b)) (LabelReads.one-digit low high (NoSecond.too-high g))
+        | yes g ↦ read (got d (c ∷ b)) (LabelReads.one_digit low high (NoSecond.too_high g))
         | no m ↦ fits c (c - 48) (omega arith) (omega arith)
       ]
     ]
@@ -78,16 +78,16 @@ second_digit d low high (c ∷ b) =
     fits c e same small =
         elim (dec_le (10 * d + e) 64) [
           | yes l ↦ read (got (10 * d + e) b) (rw same (LabelReads.two_digits low small l))
-          | no n ↦ read (got d (c ∷ b)) (rw same (LabelReads.one-digit low high (NoSecond.too_large small (omega arith))))
+          | no n ↦ read (got d (c ∷ b)) (rw same (LabelReads.one_digit low high (NoSecond.too_large small (omega arith))))
         ]
 
 read_label : (b : Bytes) → Reading (LabelReads b)
 read_label [] = read (stopped broken []) (LabelReads.no_digit NoDigit.ended)
 read_label (c ∷ b) =
     elim (dec_lt c 49) [
-      | yes l ↦ read (stopped broken (c ∷ b)) (LabelReads.no_digit (NoDigit.too-low l))
+      | yes l ↦ read (stopped broken (c ∷ b)) (LabelReads.no_digit (NoDigit.too_low l))
       | no n ↦ elim (dec_lt 57 c) [
-        | yes g ↦ read (stopped broken (c ∷ b)) (LabelReads.no_digit (NoDigit.too-high g))
+        | yes g ↦ read (stopped broken (c ∷ b)) (LabelReads.no_digit (NoDigit.too_high g))
         | no m ↦ first (c - 48) (omega arith) (omega arith) (omega arith)
       ]
     ]

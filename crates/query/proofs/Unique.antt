@@ -28,28 +28,28 @@ module _ (limit : Limits) (b : Bytes) where
   entries_wrong n i f all = entry_wrong n i f.faulty (all i f.within)
 
   pub query_wrong : Wrong (Query limit b) (QueryFault limit b)
-  query_wrong n p (QueryFault.bad-length l) q = l q.size
-  query_wrong n p (QueryFault.bad-entry l f) q = entries_wrong n p f q.entry
+  query_wrong n p (QueryFault.bad_length l) q = l q.size
+  query_wrong n p (QueryFault.bad_entry l f) q = entries_wrong n p f q.entry
   query_wrong n p (no_path l a h) q = h q.path
 
   pub query_one : OneFault (QueryFault limit b)
-  query_one n m p q (QueryFault.bad-length l) (QueryFault.bad-length k) = (refl, refl)
-  query_one n m p q (QueryFault.bad-length l) (QueryFault.bad-entry k f) = absurd (l k)
-  query_one n m p q (QueryFault.bad-length l) (no_path k a h) = absurd (l k)
-  query_one n m p q (QueryFault.bad-entry k f) (QueryFault.bad-length l) = absurd (l k)
-  query_one n m p q (QueryFault.bad-entry k f) (QueryFault.bad-entry l g) = entries_one n m p q f g
-  query_one n m p q (QueryFault.bad-entry k f) (no_path l a h) = absurd (entries_wrong n p f a)
-  query_one n m p q (no_path k a h) (QueryFault.bad-length l) = absurd (l k)
-  query_one n m p q (no_path k a h) (QueryFault.bad-entry l f) = absurd (entries_wrong m q f a)
+  query_one n m p q (QueryFault.bad_length l) (QueryFault.bad_length k) = (refl, refl)
+  query_one n m p q (QueryFault.bad_length l) (QueryFault.bad_entry k f) = absurd (l k)
+  query_one n m p q (QueryFault.bad_length l) (no_path k a h) = absurd (l k)
+  query_one n m p q (QueryFault.bad_entry k f) (QueryFault.bad_length l) = absurd (l k)
+  query_one n m p q (QueryFault.bad_entry k f) (QueryFault.bad_entry l g) = entries_one n m p q f g
+  query_one n m p q (QueryFault.bad_entry k f) (no_path l a h) = absurd (entries_wrong n p f a)
+  query_one n m p q (no_path k a h) (QueryFault.bad_length l) = absurd (l k)
+  query_one n m p q (no_path k a h) (QueryFault.bad_entry l f) = absurd (entries_wrong m q f a)
   query_one n m p q (no_path k a h) (no_path l c d) = (refl, refl)
 
 module _ (b : Bytes) where
   pub filter_wrong : Wrong (FilterTable b) (FilterFault b)
-  filter_wrong n p (FilterFault.bad-length l) t = l t.size
-  filter_wrong n p (FilterFault.bad-entry l f) t = entries_wrong _ b n p f t.entry
+  filter_wrong n p (FilterFault.bad_length l) t = l t.size
+  filter_wrong n p (FilterFault.bad_entry l f) t = entries_wrong _ b n p f t.entry
 
   pub filter_one : OneFault (FilterFault b)
-  filter_one n m p q (FilterFault.bad-length l) (FilterFault.bad-length k) = (refl, refl)
-  filter_one n m p q (FilterFault.bad-length l) (FilterFault.bad-entry k f) = absurd (l k)
-  filter_one n m p q (FilterFault.bad-entry k f) (FilterFault.bad-length l) = absurd (l k)
-  filter_one n m p q (FilterFault.bad-entry k f) (FilterFault.bad-entry l g) = entries_one _ b n m p q f g
+  filter_one n m p q (FilterFault.bad_length l) (FilterFault.bad_length k) = (refl, refl)
+  filter_one n m p q (FilterFault.bad_length l) (FilterFault.bad_entry k f) = absurd (l k)
+  filter_one n m p q (FilterFault.bad_entry k f) (FilterFault.bad_length l) = absurd (l k)
+  filter_one n m p q (FilterFault.bad_entry k f) (FilterFault.bad_entry l g) = entries_one _ b n m p q f g

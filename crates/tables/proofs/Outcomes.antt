@@ -24,12 +24,12 @@ entries_within {b = b} whole = omega (arith, entries_length b, whole.most)
 
 -- 12: the length is wrong
 pub query_length : {limit : Limits} {b : Bytes} → ¬ QueryLength limit b → QueryChecked limit b (refused 12 0)
-query_length wrong = fails (QueryFault.bad-length wrong)
+query_length wrong = fails (QueryFault.bad_length wrong)
 
 module _ {limit : Limits} {b : Bytes} (size : QueryLength limit b) (reply : Reply) (walked : EntriesChecked limit b (said reply)) where
   -- 8, 9: what the walk refuses
   pub query_entry : (r : Refusal) → reply ≡ Refused r → QueryChecked limit b (said reply)
-  query_entry r e = rw e (fails (QueryFault.bad-entry size (faulted (rw e at walked))))
+  query_entry r e = rw e (fails (QueryFault.bad_entry size (faulted (rw e at walked))))
 
   module _ (n : ℕ) (e : reply ≡ Count n) where
     -- every entry fits, and the count is the number of entries
@@ -61,9 +61,9 @@ module _ {limit : Limits} {b : Bytes} (size : QueryLength limit b) (reply : Repl
 
 -- 7: the length is wrong
 pub filter_length : {b : Bytes} → ¬ Whole 6 filters.entries b → FilterChecked b (refused 7 0)
-filter_length wrong = fails (FilterFault.bad-length wrong)
+filter_length wrong = fails (FilterFault.bad_length wrong)
 
 -- 8, 9, and the count: what the walk says
 pub filter_entries : {b : Bytes} → Whole 6 filters.entries b → (s : Said) → EntriesChecked filters b s → FilterChecked b s
 filter_entries size (count n) walked = let (fits, e) = counted walked in passes (record { size = size; entry = fits }) e
-filter_entries size (refused n p) walked = fails (FilterFault.bad-entry size (faulted walked))
+filter_entries size (refused n p) walked = fails (FilterFault.bad_entry size (faulted walked))

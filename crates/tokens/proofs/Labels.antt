@@ -34,17 +34,17 @@ at_most_ten (too_high l) = omega arith
 
 -- a byte whose value is 0 or 10 is no digit from 1 to 9
 not_a_first : {c d : ℕ} (b : Bytes) → DigitOf c d → (d ≡ 0) ⊎ (d ≡ 10) → NoDigit (c ∷ b)
-not_a_first {c} b (digit l e) (inl z) = let w : c < 49 = omega arith in rules.NoDigit.too-low w
+not_a_first {c} b (digit l e) (inl z) = let w : c < 49 = omega arith in rules.NoDigit.too_low w
 not_a_first b (digit l e) (inr z) = absurd (omega arith)
-not_a_first {c} b (too_low l) z = let w : c < 49 = omega arith in rules.NoDigit.too-low w
-not_a_first b (too_high l) z = rules.NoDigit.too-high l
+not_a_first {c} b (too_low l) z = let w : c < 49 = omega arith in rules.NoDigit.too_low w
+not_a_first b (too_high l) z = rules.NoDigit.too_high l
 
 -- a byte that is no digit, or makes too large a label with d, is no second digit
 not_a_second : {c e : ℕ} (d : ℕ) (b : Bytes) → DigitOf c e → (10 ≤ e) ⊎ (64 < 10 * d + e) → NoSecond d (c ∷ b)
 not_a_second d b (digit l e) (inl z) = absurd (omega arith)
 not_a_second d b (digit l e) (inr z) = rw e (rules.NoSecond.too_large l z)
-not_a_second d b (too_low l) z = rules.NoSecond.too-low l
-not_a_second d b (too_high l) z = rules.NoSecond.too-high l
+not_a_second d b (too_low l) z = rules.NoSecond.too_low l
+not_a_second d b (too_high l) z = rules.NoSecond.too_high l
 
 module _ (text : Bytes) (at : ℕ) where
   -- no label is read

@@ -54,12 +54,12 @@ decided {b = true} test = yes (test.exact.0 tt)
 decided {b = false} test = no test.exact.1
 
 -- what a branch on a negated test tells of the statement, where it turns away
-pub test_failed : (b : Bool) {A : Type 0} → T b ↔ A → not b ≡ true → ¬ A
-test_failed b exact e a = T_not b (subst T (sym e) tt) (exact.1 a)
+pub test_failed : (b : Bool) {A : Type 0} → T b ↔ A → b ≡ false → ¬ A
+test_failed b exact e a = subst T e (exact.1 a)
 
 -- and where it lets on
-pub test_passed : (b : Bool) {A : Type 0} → T b ↔ A → not b ≡ false → A
-test_passed b exact e = exact.0 (subst T (sym (not-false b e)) tt)
+pub test_passed : (b : Bool) {A : Type 0} → T b ↔ A → b ≡ true → A
+test_passed b exact e = exact.0 (subst T (sym e) tt)
 
 -- what holds of both branches holds of a choice by a test
 pub choice : {A : Type 0} (P : A → Type 0) (b : Bool) (x y : A) → (T b → P x) → (T (not b) → P y) → P (cond b x y)

@@ -1,0 +1,6 @@
+-- `label_fits`: what is tested is the record's label.
+use borrow.Author.Rules.{rules}
+use Rattle.roll.proofs.scan.label_fits.Goals as goal
+
+pub returns : goal.returns
+returns c = rw c.label_at.ensures at c.is_label.ensures
