@@ -56,13 +56,13 @@ no_second (behind (Memᴰ.tail (Memᴰ.tail (Memᴰ.tail (Memᴰ.tail m))))) = a
 
 -- a label is read as its number
 label_followed : {s more : Bytes} {l : ℕ} → LabelText s l → EndsTerm more → LabelReads (s ++ more) (got l more)
-label_followed (grammar.one-digit l h) a = one_digit l h (no_second a)
+label_followed (grammar.one_digit l h) a = one_digit l h (no_second a)
 label_followed (grammar.two_digits l h m) a = two_digits l h m
 
 -- a path does not begin as any other term does
 atom_begins : {s : Bytes} {p : Path} → AtomText s p → (more : Bytes) → NotAt term_bytes (s ++ more)
 atom_begins grammar.dot more = not_at tt
-atom_begins grammar.letter-v more = not_at tt
+atom_begins grammar.letter_v more = not_at tt
 atom_begins grammar.caret more = not_at tt
 atom_begins grammar.greater more = not_at tt
 atom_begins grammar.less more = not_at tt
@@ -70,15 +70,15 @@ atom_begins (grammar.square x) more = not_at tt
 atom_begins (grammar.round x) more = not_at tt
 
 item_begins : {s : Bytes} {p : Path} → ItemText s p → (more : Bytes) → NotAt term_bytes (s ++ more)
-item_begins (grammar.an-atom x) more = atom_begins x more
+item_begins (grammar.an_atom x) more = atom_begins x more
 item_begins (grammar.starred x) more = rw append_assoc (item_begins x (42 ∷ more))
 
 sequence_begins : {s : Bytes} {p : Path} → SequenceText s p → (more : Bytes) → NotAt term_bytes (s ++ more)
-sequence_begins (grammar.one-item x) more = item_begins x more
+sequence_begins (grammar.one_item x) more = item_begins x more
 sequence_begins (grammar.slash {u = u} x y) more = rw append_assoc (sequence_begins x (47 ∷ u ++ more))
 
 path_begins : {s : Bytes} {p : Path} → PathText s p → (more : Bytes) → NotAt term_bytes (s ++ more)
-path_begins (grammar.one-sequence x) more = sequence_begins x more
+path_begins (grammar.one_sequence x) more = sequence_begins x more
 path_begins (grammar.bar {u = u} x y) more = rw append_assoc (path_begins x (124 ∷ u ++ more))
 
 -- What may stand behind a chain, and is not taken for more of its links.
@@ -156,32 +156,32 @@ module _ (limit : ℕ) where
       (λ s p y. ItemFollowed s p) (λ s p y. AtomFollowed s p)
       (λ s f y. ChainFollowed chain.Filter s f) (λ s f y. ChainFollowed chain.Conjunction s f)
       (λ s f y. LinkFollowed chain.Conjunction s f) [
-        | grammar.one-sequence {s = s} {p = p} (x → h) ↦ one_link chain.Path s p (sequence_link s p h)
+        | grammar.one_sequence {s = s} {p = p} (x → h) ↦ one_link chain.Path s p (sequence_link s p h)
         | grammar.bar {s = s} {u = u} {p = p} {q = q} (x → h) (y → k) ↦ links chain.Path s u p q h (sequence_link u q k)
-        | grammar.one-item {s = s} {p = p} (x → h) ↦ one_link chain.Sequence s p (item_link s p h)
+        | grammar.one_item {s = s} {p = p} (x → h) ↦ one_link chain.Sequence s p (item_link s p h)
         | grammar.slash {s = s} {u = u} {p = p} {q = q} (x → h) (y → k) ↦ links chain.Sequence s u p q h (item_link u q k)
-        | grammar.an-atom (x → h) ↦ λ n more r l z. item (h n more l) z
+        | grammar.an_atom (x → h) ↦ λ n more r l z. item (h n more l) z
         | grammar.starred {s = s} (x → h) ↦
             λ n more r l z.
             let e = length-append s (42 ∷ []) in
             rw append_assoc (h n (42 ∷ more) r (omega arith) (one_more z))
         | grammar.dot ↦ λ n more l. dot
-        | grammar.letter-v ↦ λ n more l. letter_v
+        | grammar.letter_v ↦ λ n more l. letter_v
         | grammar.caret ↦ λ n more l. caret
         | grammar.greater ↦ λ n more l. greater
         | grammar.less ↦ λ n more l. less
         | grammar.square {s = s} {f = f} (x → h) ↦ λ n more l. square (enclosed bracket.Square s f h n more l)
         | grammar.round {s = s} {p = p} (x → h) ↦ λ n more l. round (enclosed bracket.Round s p h n more l)
-        | grammar.one-conjunction {s = s} {f = f} (x → h) ↦ one_link chain.Filter s f (conjunction_link s f h)
+        | grammar.one_conjunction {s = s} {f = f} (x → h) ↦ one_link chain.Filter s f (conjunction_link s f h)
         | grammar.plus {s = s} {u = u} {f = f} {g = g} (x → h) (y → k) ↦ links chain.Filter s u f g h (conjunction_link u g k)
-        | grammar.one-term {s = s} {f = f} (x → h) ↦ one_link chain.Conjunction s f h
+        | grammar.one_term {s = s} {f = f} (x → h) ↦ one_link chain.Conjunction s f h
         | grammar.ampersand {s = s} {u = u} {f = f} {g = g} (x → h) (y → k) ↦ links chain.Conjunction s u f g h k
         | grammar.exclamation (x → h) ↦ λ n more l a. exclamation (h n more (omega arith) a)
-        | grammar.letter-t ↦ λ n more l a. letter_t
-        | grammar.letter-f ↦ λ n more l a. letter_f
+        | grammar.letter_t ↦ λ n more l a. letter_t
+        | grammar.letter_f ↦ λ n more l a. letter_f
         | grammar.hash x ↦ λ n more l a. hash (label_followed x a)
         | grammar.curly {s = s} {f = f} (x → h) ↦ λ n more l a. curly (enclosed bracket.Curly s f h n more l)
-        | grammar.a-path {p = p} (x → h) ↦
+        | grammar.a_path {p = p} (x → h) ↦
             λ n more l a.
             a_path (path_begins x more) (h n more (got p more) l (behind_not_at tt a, behind_not_at tt a) (ends (behind_not_at tt a)))
       ]

@@ -93,14 +93,14 @@ digit_skipped {l} f o (none {c = c} {b = b} h) = go (dec_digit l c) refl
 -- a byte that begins no label
 first_digit : {b : Bytes} → NoDigit b → NoDigitOf 0 b
 first_digit rules.ended = ended
-first_digit (rules.too-low {c = c} l) = none (λ (d : Digit 0 c). omega arith)
-first_digit (rules.too-high {c = c} l) = none (λ (d : Digit 0 c). omega arith)
+first_digit (rules.too_low {c = c} l) = none (λ (d : Digit 0 c). omega arith)
+first_digit (rules.too_high {c = c} l) = none (λ (d : Digit 0 c). omega arith)
 
 -- a byte that makes no label of two digits
 second_digit : {l : ℕ} {b : Bytes} → NoSecond l b → NoDigitOf l b
 second_digit rules.ended = ended
-second_digit {l} (rules.too-low {c = c} h) = none (λ (d : Digit l c). omega arith)
-second_digit {l} (rules.too-high {c = c} h) = none (λ (d : Digit l c). omega arith)
+second_digit {l} (rules.too_low {c = c} h) = none (λ (d : Digit l c). omega arith)
+second_digit {l} (rules.too_high {c = c} h) = none (λ (d : Digit l c). omega arith)
 second_digit {l} (rules.too_large {e = e} h m) = none (λ (d : Digit l (48 + e)). omega arith)
 
 -- no label has three digits
@@ -188,7 +188,7 @@ module _ {limit : ℕ} where
 
   -- stars behind an item
   led_stars : {p : Path} {b : Bytes} {r : Result Path} → StarsRead p b r → (e t : Path → Path) (P : PathPlace) (σ : State)
-      → Here σ (offer (machine.item-read e t P p)) b
+      → Here σ (offer (machine.item_read e t P p)) b
       → Led limit σ b (λ q. behind_item e P (t q)) r
   unfolding opening
   led_stars (one_more x) e t P σ h = first h.now absurd (led_stars x e t P _ here)
@@ -247,7 +247,7 @@ module _ {limit : ℕ} where
     led_link (a_path_stops k x) a f d = stop (as_term a.0 f a.1 k (led_chain x (in_filter a.0 f a.1) d))
 
     led_atom : {n : ℕ} {b : Bytes} {r : Result Path} → AtomReads limit n b r → (e t : Path → Path) (P : PathPlace) → path_depth P ≡ n
-        → Led limit (machine.item e t P) b (λ p. offer (machine.item-read e t P p)) r
+        → Led limit (machine.item e t P) b (λ p. offer (machine.item_read e t P p)) r
     led_atom dot e t P d = first refl absurd (led stays here)
     led_atom letter_v e t P d = first refl absurd (led stays here)
     led_atom caret e t P d = first refl absurd (led stays here)

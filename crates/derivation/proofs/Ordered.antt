@@ -125,29 +125,29 @@ path_ordered x =
     elim x as (λ s p y. InOrder path_entries path p) (λ s p y. InOrder path_entries path p)
     (λ s p y. InOrder path_entries path p) (λ s p y. InOrder path_entries path p)
     (λ s f y. InOrder filter_entries filter f) (λ s f y. InOrder filter_entries filter f) (λ s f y. InOrder filter_entries filter f) [
-      | grammar.one-sequence (x → h) ↦ h
+      | grammar.one_sequence (x → h) ↦ h
       | grammar.bar {p = p} {q = q} (x → h) (y → k) ↦ joined path_entries 8 p q refl refl refl refl h k
-      | grammar.one-item (x → h) ↦ h
+      | grammar.one_item (x → h) ↦ h
       | grammar.slash {p = p} {q = q} (x → h) (y → k) ↦ joined path_entries 7 p q refl refl refl refl h k
-      | grammar.an-atom (x → h) ↦ h
+      | grammar.an_atom (x → h) ↦ h
       | grammar.starred (x → h) ↦ λ before. behind_one before 9 refl refl refl refl (h before)
       | grammar.dot ↦ λ before. alone before 1 refl refl refl refl
-      | grammar.letter-v ↦ λ before. alone before 2 refl refl refl refl
+      | grammar.letter_v ↦ λ before. alone before 2 refl refl refl refl
       | grammar.caret ↦ λ before. alone before 3 refl refl refl refl
       | grammar.greater ↦ λ before. alone before 4 refl refl refl refl
       | grammar.less ↦ λ before. alone before 5 refl refl refl refl
       | grammar.square (x → h) ↦ λ before. behind_one before 6 refl refl refl refl (h before)
       | grammar.round (x → h) ↦ h
-      | grammar.one-conjunction (x → h) ↦ h
+      | grammar.one_conjunction (x → h) ↦ h
       | grammar.plus {f = f} {g = g} (x → h) (y → k) ↦ joined filter_entries 22 f g refl refl refl refl h k
-      | grammar.one-term (x → h) ↦ h
+      | grammar.one_term (x → h) ↦ h
       | grammar.ampersand {f = f} {g = g} (x → h) (y → k) ↦ joined filter_entries 21 f g refl refl refl refl h k
       | grammar.exclamation (x → h) ↦ λ before. behind_one before 20 refl refl refl refl (h before)
-      | grammar.letter-t ↦ λ before. alone before 18 refl refl refl refl
-      | grammar.letter-f ↦ λ before. alone before 19 refl refl refl refl
+      | grammar.letter_t ↦ λ before. alone before 18 refl refl refl refl
+      | grammar.letter_f ↦ λ before. alone before 19 refl refl refl refl
       | grammar.hash x ↦ λ before. alone before 16 refl refl refl (label_read x)
       | grammar.curly (x → h) ↦ h
-      | grammar.a-path (x → h) ↦ λ before. behind_one before 17 refl refl refl refl (h before)
+      | grammar.a_path (x → h) ↦ λ before. behind_one before 17 refl refl refl refl (h before)
     ]
 
 -- The table of a path that has a text: each entry is right, and the last is a path.

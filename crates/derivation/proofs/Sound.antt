@@ -91,10 +91,10 @@ LinkText chain.Conjunction = TermText
 
 -- a link is a chain
 one_link : (c : Chain) (s : Bytes) (x : Joined c) → LinkText c s x → ChainText c s x
-one_link chain.Path s x w = grammar.one-sequence w
-one_link chain.Sequence s x w = grammar.one-item w
-one_link chain.Filter s x w = grammar.one-conjunction w
-one_link chain.Conjunction s x w = grammar.one-term w
+one_link chain.Path s x w = grammar.one_sequence w
+one_link chain.Sequence s x w = grammar.one_item w
+one_link chain.Filter s x w = grammar.one_conjunction w
+one_link chain.Conjunction s x w = grammar.one_term w
 
 -- and so are a chain and one more link, joined
 links : (c : Chain) (s u : Bytes) (x y : Joined c) → ChainText c s x → LinkText c u y → ChainText c (s ++ joining c ∷ u) (join c x y)
@@ -105,10 +105,10 @@ links chain.Conjunction s u x y v w = grammar.ampersand v w
 
 -- there is a text of each
 example : (c : Chain) → (s : Bytes) × (x : Joined c) × ChainText c s x
-example chain.Path = (46 ∷ [], self, grammar.one-sequence (grammar.one-item (grammar.an-atom grammar.dot)))
-example chain.Sequence = (46 ∷ [], self, grammar.one-item (grammar.an-atom grammar.dot))
-example chain.Filter = (116 ∷ [], always, grammar.one-conjunction (grammar.one-term grammar.letter-t))
-example chain.Conjunction = (116 ∷ [], always, grammar.one-term grammar.letter-t)
+example chain.Path = (46 ∷ [], self, grammar.one_sequence (grammar.one_item (grammar.an_atom grammar.dot)))
+example chain.Sequence = (46 ∷ [], self, grammar.one_item (grammar.an_atom grammar.dot))
+example chain.Filter = (116 ∷ [], always, grammar.one_conjunction (grammar.one_term grammar.letter_t))
+example chain.Conjunction = (116 ∷ [], always, grammar.one_term grammar.letter_t)
 
 -- The text of a bracket is that of what stands in it, between two bytes.
 data BracketText (k : Bracket) : Bytes → Joined (inside k) → Type 0 where
@@ -170,9 +170,9 @@ not_opened k {o = o} e =
 
 -- a label's digits
 heard_label : {b : Bytes} {r : Result ℕ} → LabelReads b r → Heard LabelText b r
-heard_label (one_digit {d = d} l h second) = exactly ((48 + d) ∷ []) (grammar.one-digit l h)
+heard_label (one_digit {d = d} l h second) = exactly ((48 + d) ∷ []) (grammar.one_digit l h)
 heard_label (two_digits {d = d} {e = e} l h m) = exactly ((48 + d) ∷ (48 + e) ∷ []) (grammar.two_digits l h m)
-heard_label (no_digit h) = begun [] (49 ∷ []) refl (grammar.one-digit {d = 1} (omega arith) (omega arith)) anything
+heard_label (no_digit h) = begun [] (49 ∷ []) refl (grammar.one_digit {d = 1} (omega arith) (omega arith)) anything
 
 -- stars behind an item
 heard_stars : {i : Path} {b : Bytes} {r : Result Path} → StarsRead i b r → {before : Bytes} → Span ItemText before i b
@@ -196,22 +196,22 @@ module _ {limit : ℕ} where
 
     heard_link : {c : Chain} {n : ℕ} {b : Bytes} {r : Result (Joined c)} → LinkReads limit c n b r → Heard (LinkText c) b r
     heard_link (sequence x) = heard x
-    heard_link (item x y) = heard_stars y (lift (λ s w. grammar.an-atom w) (span (heard_atom x)))
-    heard_link (item_stops x) = lift_stop (λ s q w. (q, grammar.an-atom w)) (heard_atom x)
+    heard_link (item x y) = heard_stars y (lift (λ s w. grammar.an_atom w) (span (heard_atom x)))
+    heard_link (item_stops x) = lift_stop (λ s q w. (q, grammar.an_atom w)) (heard_atom x)
     heard_link (conjunction x) = heard x
     heard_link (exclamation x) = whole (ahead (λ s w. grammar.exclamation w) (span (heard_link x)))
     heard_link (exclamation_stops x) = ahead_stop (λ s f w. (_, grammar.exclamation w)) (heard_link x)
-    heard_link letter_t = exactly (116 ∷ []) grammar.letter-t
-    heard_link letter_f = exactly (102 ∷ []) grammar.letter-f
+    heard_link letter_t = exactly (116 ∷ []) grammar.letter_t
+    heard_link letter_f = exactly (102 ∷ []) grammar.letter_f
     heard_link (hash x) = whole (ahead (λ s w. grammar.hash w) (span (heard_label x)))
     heard_link (hash_stops x) = ahead_stop (λ s l w. (_, grammar.hash w)) (heard_label x)
     heard_link (curly x) = lift_all (λ s f w. curly_text w) (heard_bracket x)
-    heard_link (a_path h x) = whole (lift (λ s w. grammar.a-path w) (span (heard x)))
-    heard_link (a_path_stops h x) = lift_stop (λ s p w. (_, grammar.a-path w)) (heard x)
+    heard_link (a_path h x) = whole (lift (λ s w. grammar.a_path w) (span (heard x)))
+    heard_link (a_path_stops h x) = lift_stop (λ s p w. (_, grammar.a_path w)) (heard x)
 
     heard_atom : {n : ℕ} {b : Bytes} {r : Result Path} → AtomReads limit n b r → Heard AtomText b r
     heard_atom dot = exactly (46 ∷ []) grammar.dot
-    heard_atom letter_v = exactly (118 ∷ []) grammar.letter-v
+    heard_atom letter_v = exactly (118 ∷ []) grammar.letter_v
     heard_atom caret = exactly (94 ∷ []) grammar.caret
     heard_atom greater = exactly (62 ∷ []) grammar.greater
     heard_atom less = exactly (60 ∷ []) grammar.less

@@ -92,14 +92,14 @@ module _ {tab : Bytes} {s : Sort} {e : ℕ} {read : Entry} (k : Read tab s e rea
   -- what the entry stands for
   pub is_self : read.kind ≡ 1 → path_at (entries tab) e ≡ syntax.self
   unfolding kinds find build the_path
-  is_self is = standing.path-stands (entries tab) e k.entry.within (entry_of read) same_entry 1 _ refl is
+  is_self is = standing.path_stands (entries tab) e k.entry.within (entry_of read) same_entry 1 _ refl is
 
   pub is_axis : {axis : Axis} → OfKind read.kind axis → path_at (entries tab) e ≡ path_of axis
   unfolding kinds find build the_path
-  is_axis (OfKind.child is) = standing.path-stands (entries tab) e k.entry.within (entry_of read) same_entry 2 _ refl is
-  is_axis (OfKind.parent is) = standing.path-stands (entries tab) e k.entry.within (entry_of read) same_entry 3 _ refl is
-  is_axis (OfKind.next is) = standing.path-stands (entries tab) e k.entry.within (entry_of read) same_entry 4 _ refl is
-  is_axis (OfKind.previous is) = standing.path-stands (entries tab) e k.entry.within (entry_of read) same_entry 5 _ refl is
+  is_axis (OfKind.child is) = standing.path_stands (entries tab) e k.entry.within (entry_of read) same_entry 2 _ refl is
+  is_axis (OfKind.parent is) = standing.path_stands (entries tab) e k.entry.within (entry_of read) same_entry 3 _ refl is
+  is_axis (OfKind.next is) = standing.path_stands (entries tab) e k.entry.within (entry_of read) same_entry 4 _ refl is
+  is_axis (OfKind.previous is) = standing.path_stands (entries tab) e k.entry.within (entry_of read) same_entry 5 _ refl is
 
   -- both operands are earlier entries of the sort
   abbrev pub Both : Sort → Type 0
@@ -107,53 +107,53 @@ module _ {tab : Bytes} {s : Sort} {e : ℕ} {read : Entry} (k : Read tab s e rea
 
   pub is_stay : read.kind ≡ 6
       → OperandField (entries tab) e (of filter) read.left × (path_at (entries tab) e ≡ syntax.stay (filter_at (entries tab) read.left))
-  is_stay is = standing.stay-stands (entries tab) e k.entry.within (entry_of read) same_entry right is
+  is_stay is = standing.stay_stands (entries tab) e k.entry.within (entry_of read) same_entry right is
 
   pub is_then : read.kind ≡ 7
       → Both path × (path_at (entries tab) e ≡ syntax.then (path_at (entries tab) read.left) (path_at (entries tab) read.right))
-  is_then is = standing.then-stands (entries tab) e k.entry.within (entry_of read) same_entry right is
+  is_then is = standing.then_stands (entries tab) e k.entry.within (entry_of read) same_entry right is
 
   pub is_either : read.kind ≡ 8
       → Both path × (path_at (entries tab) e ≡ syntax.either (path_at (entries tab) read.left) (path_at (entries tab) read.right))
-  is_either is = standing.either-stands (entries tab) e k.entry.within (entry_of read) same_entry right is
+  is_either is = standing.either_stands (entries tab) e k.entry.within (entry_of read) same_entry right is
 
   pub is_star : read.kind ≡ 9
       → OperandField (entries tab) e (of path) read.left × (path_at (entries tab) e ≡ syntax.star (path_at (entries tab) read.left))
-  is_star is = standing.star-stands (entries tab) e k.entry.within (entry_of read) same_entry right is
+  is_star is = standing.star_stands (entries tab) e k.entry.within (entry_of read) same_entry right is
 
   pub is_labelled : read.kind ≡ 16 → filter_at (entries tab) e ≡ syntax.labelled read.label
   unfolding kinds find build the_filter
-  is_labelled is = standing.filter-stands (entries tab) e k.entry.within (entry_of read) same_entry 16 _ refl is
+  is_labelled is = standing.filter_stands (entries tab) e k.entry.within (entry_of read) same_entry 16 _ refl is
 
   pub is_leads : read.kind ≡ 17
       → OperandField (entries tab) e (of path) read.left × (filter_at (entries tab) e ≡ syntax.leads (path_at (entries tab) read.left))
-  is_leads is = standing.leads-stands (entries tab) e k.entry.within (entry_of read) same_entry right is
+  is_leads is = standing.leads_stands (entries tab) e k.entry.within (entry_of read) same_entry right is
 
   pub is_always : read.kind ≡ 18 → filter_at (entries tab) e ≡ syntax.always
   unfolding kinds find build the_filter
-  is_always is = standing.filter-stands (entries tab) e k.entry.within (entry_of read) same_entry 18 _ refl is
+  is_always is = standing.filter_stands (entries tab) e k.entry.within (entry_of read) same_entry 18 _ refl is
 
   pub is_never : read.kind ≡ 19 → filter_at (entries tab) e ≡ syntax.never
   unfolding kinds find build the_filter
-  is_never is = standing.filter-stands (entries tab) e k.entry.within (entry_of read) same_entry 19 _ refl is
+  is_never is = standing.filter_stands (entries tab) e k.entry.within (entry_of read) same_entry 19 _ refl is
 
   pub is_not : read.kind ≡ 20
       → OperandField (entries tab) e (of filter) read.left × (filter_at (entries tab) e ≡ syntax.not (filter_at (entries tab) read.left))
-  is_not is = standing.not-stands (entries tab) e k.entry.within (entry_of read) same_entry right is
+  is_not is = standing.not_stands (entries tab) e k.entry.within (entry_of read) same_entry right is
 
   pub is_and : read.kind ≡ 21
       → Both filter × (filter_at (entries tab) e ≡ syntax.and (filter_at (entries tab) read.left) (filter_at (entries tab) read.right))
-  is_and is = standing.and-stands (entries tab) e k.entry.within (entry_of read) same_entry right is
+  is_and is = standing.and_stands (entries tab) e k.entry.within (entry_of read) same_entry right is
 
   pub is_or : read.kind ≡ 22
       → Both filter × (filter_at (entries tab) e ≡ syntax.or (filter_at (entries tab) read.left) (filter_at (entries tab) read.right))
-  is_or is = standing.or-stands (entries tab) e k.entry.within (entry_of read) same_entry right is
+  is_or is = standing.or_stands (entries tab) e k.entry.within (entry_of read) same_entry right is
 
 -- a filter's entry stays where it is, on every course
 pub stays_at : {tab : Bytes} {x : ℕ} → EntriesRight tab → Within tab path x → (entry_at (entries tab) x).kind ≡ 6
     → (course : Course) → Still (facing course (path_at (entries tab) x))
 stays_at {tab} {x} order w is course =
-    rw (standing.stay-stands (entries tab) x w.within (entry_at (entries tab) x) refl (order x w.within) is).1 (stay_still course _)
+    rw (standing.stay_stands (entries tab) x w.within (entry_at (entries tab) x) refl (order x w.within) is).1 (stay_still course _)
 
 -- the path of entry e is that of entry `first` and then that of entry `second`, on a course
 pub record Parts (table : Bytes) (course : Course) (e first second : ℕ) : Type 0 where

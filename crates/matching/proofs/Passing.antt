@@ -40,9 +40,9 @@ module _ {es : Entries} {e : ℕ} where
   pub means : {read : Entry} → Stands es e → Fields (entry_at es e) read → Means es e read.label read.left read.right read.kind
   means (standing.nothing at is) f = rw (f.kind, at) (nothing is)
   means (standing.one_label at is) f = rw (f.kind, f.label, at) (one_label is)
-  means (standing.in-turn l r at is) f = rw (f.kind, f.left, f.right, at) (in_turn (record { one = l; other = r; is = is }))
+  means (standing.in_turn l r at is) f = rw (f.kind, f.left, f.right, at) (in_turn (record { one = l; other = r; is = is }))
   means (standing.one_of_two l r at is) f = rw (f.kind, f.left, f.right, at) (one_of_two (record { one = l; other = r; is = is }))
-  means (standing.any-times l at is) f = rw (f.kind, f.left, at) (any_times l is)
+  means (standing.any_times l at is) f = rw (f.kind, f.left, at) (any_times l is)
 
   module _ {label l r : ℕ} where
     pub is_one : Means es e label l r 33 → expression_at es e ≡ one label

@@ -115,25 +115,25 @@ module _ {table : Bytes} {e : ℕ} (has : HasEntry table e) where
   pub stay_shown : own.kind ≡ 6 → (own.left < e) × (entry_shown es e ≡ code "[" ∷ entry_held 0 es own.left ++ code "]" ∷ [])
   unfolding kinds find path_shown between filter_held
   stay_shown is =
-      let (f, same) = standing.stay-stands es e has.within own refl right is in
+      let (f, same) = standing.stay_stands es e has.within own refl right is in
       around path filter 0 (λ x. code "[" ∷ x ++ code "]" ∷ []) (of_sort 6 refl is) f (rw (same, unbracketed) refl)
 
   pub star_shown : own.kind ≡ 9 → (own.left < e) × (entry_shown es e ≡ entry_held 3 es own.left ++ code "*" ∷ [])
   unfolding kinds find path_shown
   star_shown is =
-      let (f, same) = standing.star-stands es e has.within own refl right is in
+      let (f, same) = standing.star_stands es e has.within own refl right is in
       around path path 3 (λ x. x ++ code "*" ∷ []) (of_sort 9 refl is) f (ap path_shown same)
 
   pub leads_shown : own.kind ≡ 17 → (own.left < e) × (entry_shown es e ≡ entry_held 0 es own.left)
   unfolding kinds find filter_shown path_held
   leads_shown is =
-      let (f, same) = standing.leads-stands es e has.within own refl right is in
+      let (f, same) = standing.leads_stands es e has.within own refl right is in
       around filter path 0 (λ x. x) (of_sort 17 refl is) f (rw (same, unbracketed) refl)
 
   pub not_shown : own.kind ≡ 20 → (own.left < e) × (entry_shown es e ≡ code "!" ∷ entry_held 2 es own.left)
   unfolding kinds find filter_shown
   not_shown is =
-      let (f, same) = standing.not-stands es e has.within own refl right is in
+      let (f, same) = standing.not_stands es e has.within own refl right is in
       around filter filter 2 (λ x. code "!" ∷ x) (of_sort 20 refl is) f (ap filter_shown same)
 
   -- two operands, joined by a byte: the right one is held one rank tighter
@@ -153,25 +153,25 @@ module _ {table : Bytes} {e : ℕ} (has : HasEntry table e) where
   then_shown : own.kind ≡ 7 → Joined 1 (code "/")
   unfolding kinds find path_shown
   then_shown is =
-      let ((f, g), same) = standing.then-stands es e has.within own refl right is in
+      let ((f, g), same) = standing.then_stands es e has.within own refl right is in
       joined path 1 (code "/") (of_sort 7 refl is) f g (ap path_shown same)
 
   either_shown : own.kind ≡ 8 → Joined 0 (code "|")
   unfolding kinds find path_shown path_held
   either_shown is =
-      let ((f, g), same) = standing.either-stands es e has.within own refl right is in
+      let ((f, g), same) = standing.either_stands es e has.within own refl right is in
       joined path 0 (code "|") (of_sort 8 refl is) f g (rw (same, unbracketed) refl)
 
   and_shown : own.kind ≡ 21 → Joined 1 (code "&")
   unfolding kinds find filter_shown
   and_shown is =
-      let ((f, g), same) = standing.and-stands es e has.within own refl right is in
+      let ((f, g), same) = standing.and_stands es e has.within own refl right is in
       joined filter 1 (code "&") (of_sort 21 refl is) f g (ap filter_shown same)
 
   or_shown : own.kind ≡ 22 → Joined 0 (code "+")
   unfolding kinds find filter_shown filter_held
   or_shown is =
-      let ((f, g), same) = standing.or-stands es e has.within own refl right is in
+      let ((f, g), same) = standing.or_stands es e has.within own refl right is in
       joined filter 0 (code "+") (of_sort 22 refl is) f g (rw (same, unbracketed) refl)
 
   -- by its rank and its symbol: only the kinds that join two are so loose
@@ -208,7 +208,7 @@ module _ {table : Bytes} {e : ℕ} (has : HasEntry table e) where
       let same : some right.row ≡ some row = sym right.listed ∙ ap row_of is in
       let same_row : right.row ≡ row = cc in
       let label : Label own.label = rw same_row at right.label in
-      let stands = standing.filter-stands es e has.within own refl 16 _ refl is in
+      let stands = standing.filter_stands es e has.within own refl 16 _ refl is in
       (label.most, shown_as_lem es e has.within filter (of_sort 16 refl is) ∙ ap filter_shown stands)
 
   -- A kind that takes neither operands nor a label is one byte: by the rows of the kinds' list, where every other row is left out.

@@ -39,6 +39,6 @@ module _ (es : Entries) (i : ℕ) (within : i < length es) where
   unfolding mean
   stands (table.nothing at) = nothing at (meant at)
   stands (table.one_label l at) = one_label at (meant at)
-  stands (table.in-turn l r at) = in_turn l r at (meant at ∙ ap₂ then (operand_before l) (operand_before r))
+  stands (table.in_turn l r at) = in_turn l r at (meant at ∙ ap₂ then (operand_before l) (operand_before r))
   stands (table.one_of_two l r at) = one_of_two l r at (meant at ∙ ap₂ either (operand_before l) (operand_before r))
-  stands (table.any-times l at) = any_times l at (meant at ∙ ap star (operand_before l))
+  stands (table.any_times l at) = any_times l at (meant at ∙ ap star (operand_before l))

@@ -46,29 +46,29 @@ text_labels : {s : Bytes} {p : Path} → PathText s p → PathLabels p
 text_labels x =
     elim x as (λ s p y. PathLabels p) (λ s p y. PathLabels p) (λ s p y. PathLabels p) (λ s p y. PathLabels p)
     (λ s f y. FilterLabels f) (λ s f y. FilterLabels f) (λ s f y. FilterLabels f) [
-      | grammar.one-sequence (x → h) ↦ h
+      | grammar.one_sequence (x → h) ↦ h
       | grammar.bar (x → h) (y → k) ↦ (h, k)
-      | grammar.one-item (x → h) ↦ h
+      | grammar.one_item (x → h) ↦ h
       | grammar.slash (x → h) (y → k) ↦ (h, k)
-      | grammar.an-atom (x → h) ↦ h
+      | grammar.an_atom (x → h) ↦ h
       | grammar.starred (x → h) ↦ h
       | grammar.dot ↦ tt
-      | grammar.letter-v ↦ tt
+      | grammar.letter_v ↦ tt
       | grammar.caret ↦ tt
       | grammar.greater ↦ tt
       | grammar.less ↦ tt
       | grammar.square (x → h) ↦ h
       | grammar.round (x → h) ↦ h
-      | grammar.one-conjunction (x → h) ↦ h
+      | grammar.one_conjunction (x → h) ↦ h
       | grammar.plus (x → h) (y → k) ↦ (h, k)
-      | grammar.one-term (x → h) ↦ h
+      | grammar.one_term (x → h) ↦ h
       | grammar.ampersand (x → h) (y → k) ↦ (h, k)
       | grammar.exclamation (x → h) ↦ h
-      | grammar.letter-t ↦ tt
-      | grammar.letter-f ↦ tt
+      | grammar.letter_t ↦ tt
+      | grammar.letter_f ↦ tt
       | grammar.hash x ↦ label_read x
       | grammar.curly (x → h) ↦ h
-      | grammar.a-path (x → h) ↦ h
+      | grammar.a_path (x → h) ↦ h
     ]
 
 -- a label's text
@@ -77,7 +77,7 @@ unfolding label_shown
 label_text l h = go (ltb l 10) refl
   where
     go : (x : Bool) → ltb l 10 ≡ x → LabelText (cond x ((48 + l) ∷ []) ((48 + l / 10) ∷ (48 + l % 10) ∷ [])) l
-    go true e = let low = ltb-true l 10 e in grammar.one-digit h.least (omega arith)
+    go true e = let low = ltb-true l 10 e in grammar.one_digit h.least (omega arith)
     go false e =
         let high = ltb-false l 10 e in
         let two : LabelText ((48 + l / 10) ∷ (48 + l % 10) ∷ []) (10 * (l / 10) + l % 10) =
@@ -111,9 +111,9 @@ PathAt p (suc (suc zero)) s = ItemText s p
 PathAt p (suc (suc (suc n))) s = AtomText s p
 
 eased_path : (p : Path) (rank : ℕ) (s : Bytes) → PathAt p (suc rank) s → PathAt p rank s
-eased_path p zero s x = grammar.one-sequence x
-eased_path p (suc zero) s x = grammar.one-item x
-eased_path p (suc (suc zero)) s x = grammar.an-atom x
+eased_path p zero s x = grammar.one_sequence x
+eased_path p (suc zero) s x = grammar.one_item x
+eased_path p (suc (suc zero)) s x = grammar.an_atom x
 eased_path p (suc (suc (suc n))) s x = x
 
 -- and of a filter
@@ -123,8 +123,8 @@ FilterAt f (suc zero) s = ConjunctionText s f
 FilterAt f (suc (suc n)) s = TermText s f
 
 eased_filter : (f : Filter) (rank : ℕ) (s : Bytes) → FilterAt f (suc rank) s → FilterAt f rank s
-eased_filter f zero s x = grammar.one-conjunction x
-eased_filter f (suc zero) s x = grammar.one-term x
+eased_filter f zero s x = grammar.one_conjunction x
+eased_filter f (suc zero) s x = grammar.one_term x
 eased_filter f (suc (suc n)) s x = x
 
 -- with brackets where they are needed, and with none
@@ -150,7 +150,7 @@ mutual
 
   path_text : (p : Path) → PathLabels p → PathAt p (path_rank p) (path_shown p)
   path_text self h = grammar.dot
-  path_text child h = grammar.letter-v
+  path_text child h = grammar.letter_v
   path_text parent h = grammar.caret
   path_text next h = grammar.greater
   path_text previous h = grammar.less
@@ -159,13 +159,13 @@ mutual
       grammar.slash (path_held_lem p (path_text p h.0) 1 (omega arith)) (path_held_lem q (path_text q h.1) 2 (omega arith))
   path_text (either p q) h =
       grammar.bar (path_bare p (path_text p h.0)) (path_held_lem q (path_text q h.1) 1 (omega arith))
-  path_text (star p) h = grammar.starred (grammar.an-atom (path_held_lem p (path_text p h) 3 (omega arith)))
+  path_text (star p) h = grammar.starred (grammar.an_atom (path_held_lem p (path_text p h) 3 (omega arith)))
 
   filter_text : (f : Filter) → FilterLabels f → FilterAt f (filter_rank f) (filter_shown f)
   filter_text (labelled l) h = grammar.hash (label_text l h)
-  filter_text (leads p) h = grammar.a-path (path_bare p (path_text p h))
-  filter_text always h = grammar.letter-t
-  filter_text never h = grammar.letter-f
+  filter_text (leads p) h = grammar.a_path (path_bare p (path_text p h))
+  filter_text always h = grammar.letter_t
+  filter_text never h = grammar.letter_f
   filter_text (not f) h = grammar.exclamation (filter_held_lem f (filter_text f h) 2 (omega arith))
   filter_text (and f g) h =
       grammar.ampersand (filter_held_lem f (filter_text f h.0) 1 (omega arith)) (filter_held_lem g (filter_text g h.1) 2 (omega arith))

@@ -25,7 +25,7 @@ axis : (n k : ℕ) {byte kind : ℕ} {b : Bytes} → AxisOf byte kind → (kind 
     → (x : Path) × AtomReads most_open k (byte ∷ b) (got x b) × (path_entries n x ≡ one kind 0 0 0) × (0 < byte)
 unfolding path_entries
 axis n k (dot e) z = (self, rw e rules.dot, refl, omega arith)
-axis n k (letter_v e) z = (child, rw e rules.letter-v, refl, omega arith)
+axis n k (letter_v e) z = (child, rw e rules.letter_v, refl, omega arith)
 axis n k (caret e) z = (parent, rw e rules.caret, refl, omega arith)
 axis n k (greater e) z = (next, rw e rules.greater, refl, omega arith)
 axis n k (less e) z = (previous, rw e rules.less, refl, omega arith)
@@ -50,7 +50,7 @@ module _ {text : Bytes} {at k n : ℕ} {before : Bytes} where
       → Behind 6 mid p r after
       → Follows atoms k text at before n r after
   unfolding path_entries
-  square_follows f b = wrapped stay (record { goes = rules.square; halts = rules.square-stops }) (le_refl at) (λ x. refl) (omega arith) f b
+  square_follows f b = wrapped stay (record { goes = rules.square; halts = rules.square_stops }) (le_refl at) (λ x. refl) (omega arith) f b
 
   -- a round bracket
   pub round_follows : {after : Bytes} {p : Parsed} → Follows (brackets bracket.Round) k text at before n p after
@@ -72,4 +72,4 @@ module _ {text : Bytes} {at k n : ℕ} {before : Bytes} where
   pub no_atom : {kind : ℕ} {after : Bytes} → at ≤ length text → (get_or text at 0 ≡ 91 → ⊥) → (get_or text at 0 ≡ 40 → ⊥)
       → AxisOf (get_or text at 0) kind → kind ≡ 0
       → Follows atoms k text at before n (Broken at) after
-  no_atom l s r a z = stops broken_at (rules.no-atom (not_at atom_bytes text at (none s r a z))) l
+  no_atom l s r a z = stops broken_at (rules.no_atom (not_at atom_bytes text at (none s r a z))) l

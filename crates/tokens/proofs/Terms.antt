@@ -40,20 +40,20 @@ module _ {text : Bytes} {at k n : ℕ} {before : Bytes} where
   pub t_follows : {after : Bytes} {p : Parsed} → get_or text at 0 ≡ 116 → (p ≡ Got (at + 1) (n + 1)) × Added before n (one 18 0 0 0) after
       → Follows terms k text at before n p after
   unfolding filter_entries
-  t_follows e l = letter always e (omega arith) rules.letter-t refl l
+  t_follows e l = letter always e (omega arith) rules.letter_t refl l
 
   -- and `f` nowhere
   pub f_follows : {after : Bytes} {p : Parsed} → get_or text at 0 ≡ 102 → (p ≡ Got (at + 1) (n + 1)) × Added before n (one 19 0 0 0) after
       → Follows terms k text at before n p after
   unfolding filter_entries
-  f_follows e l = letter never e (omega arith) rules.letter-f refl l
+  f_follows e l = letter never e (omega arith) rules.letter_f refl l
 
   -- `!` in front of a term
   pub not_follows : {mid after : Bytes} {p r : Parsed} → get_or text at 0 ≡ 33 → Follows terms k text (at + 1) before n p mid
       → Behind 20 mid p r after → Follows terms k text at before n r after
   unfolding filter_entries
   not_follows e f b =
-      wrapped not (from_behind text at e (omega arith) (record { goes = rules.exclamation; halts = rules.exclamation-stops }))
+      wrapped not (from_behind text at e (omega arith) (record { goes = rules.exclamation; halts = rules.exclamation_stops }))
       (le-add_right at 1) (λ x. refl) (omega arith) f b
 
   -- `#` and a label
@@ -61,7 +61,7 @@ module _ {text : Bytes} {at k n : ℕ} {before : Bytes} where
       → Follows terms k text at before n p after
   unfolding filter_entries
   label_follows e f =
-      turned labelled (from_behind text at e (omega arith) (record { goes = rules.hash; halts = rules.hash-stops })) (le-add_right at 1)
+      turned labelled (from_behind text at e (omega arith) (record { goes = rules.hash; halts = rules.hash_stops })) (le-add_right at 1)
       (λ x. refl) (omega arith) f
 
   -- a filter in curly brackets
@@ -76,4 +76,4 @@ module _ {text : Bytes} {at k n : ℕ} {before : Bytes} where
   unfolding filter_entries
   leads_follows a f b =
       let off : NotAt term_bytes (drop at text) = not_at term_bytes text at a in
-      wrapped leads (record { goes = rules.a-path off; halts = rules.a-path-stops off }) (le_refl at) (λ x. refl) (omega arith) f b
+      wrapped leads (record { goes = rules.a_path off; halts = rules.a_path_stops off }) (le_refl at) (λ x. refl) (omega arith) f b

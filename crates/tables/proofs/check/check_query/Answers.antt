@@ -1,0 +1,58 @@
+-- `tables::check::check_query`: 12 for the length, then what the walk over the entries refuses, then 12 for the last
+-- entry.
+use native.Mathlib.Omega.{arith}
+use mathlib.Core.Path.{refl, sym, ◌∙◌}
+use mathlib.Core.Logic.{◌↔◌}
+use mathlib.Core.Bool.{Bool, ◌&&◌}
+use lib.Dec.{T, ltb}
+use lib.ListN.{length}
+use borrow.Author.Rules.{rules}
+use Rattle.reply.specs.declared.Reply.{Reply}
+use Rattle.reply.specs.Reply.{said}
+use Rattle.reply.specs.Bytes.{Bytes, Whole}
+use Rattle.tree.proofs.Tests.{Decides, test_passed, test_failed}
+use Rattle.query.specs.Fault.{Limits, QueryLength}
+use Rattle.tables.specs.Promise.{EntriesChecked}
+use Rattle.tables.proofs.Deciding.{length_test}
+use Rattle.tables.proofs.Outcomes.{entries_within, query_length, query_entry, query_some, query_path, query_no_path}
+use Rattle.tables.proofs.check.check_query.Goals as goal
+use Rattle.tables.proofs.check.check_query.Goals.{After-check_entries-reply, After-whole, Else-not-fits}
+
+fits_exact : (c : After-whole) → T (ltb 0 (length c.args.table.now) && c.whole.result) ↔ QueryLength (let it : Limits = record { entries = c.args.entries; height = c.args.height } in it) c.args.table.now
+fits_exact c =
+    let whole : Decides c.whole.result (Whole 6 (let it : Limits = record { entries = c.args.entries; height = c.args.height } in it).entries c.args.table.now) = record { exact = c.whole.ensures } in
+    (length_test (let it : Limits = record { entries = c.args.entries; height = c.args.height } in it) c.args.table.now whole).exact
+
+size : (c : Else-not-fits) → QueryLength (let it : Limits = record { entries = c.args.entries; height = c.args.height } in it) c.args.table.now
+size c =
+    let fits_exact : T (ltb 0 (length c.args.table.now) && c.whole.result) ↔ QueryLength (let it : Limits = record { entries = c.args.entries; height = c.args.height } in it) c.args.table.now = let whole : Decides c.whole.result (Whole 6 (let it : Limits = record { entries = c.args.entries; height = c.args.height } in it).entries c.args.table.now) = record { exact = c.whole.ensures } in
+    (length_test (let it : Limits = record { entries = c.args.entries; height = c.args.height } in it) c.args.table.now whole).exact in
+    test_passed (ltb 0 (length c.args.table.now) && c.whole.result) fits_exact c.if-not-fits.false
+
+walked : (c : After-check_entries-reply) → EntriesChecked (let it : Limits = record { entries = c.args.entries; height = c.args.height } in it) c.args.table.now (said c.check_entries-reply.result)
+walked c = c.check_entries-reply.ensures (let it : Limits = record { entries = c.args.entries; height = c.args.height } in it) refl
+
+pub returns-then-not-fits : goal.returns-then-not-fits
+returns-then-not-fits c =
+    rw c.refuse.ensures (query_length (test_failed (ltb 0 (length c.args.table.now) && c.whole.result) (fits_exact (goal.at.returns-then-not-fits c).After-whole) c.if-not-fits.true))
+
+pub check_entries-reply-requires : goal.check_entries-reply-requires
+check_entries-reply-requires c = omega (arith, entries_within (size c).size)
+
+pub returns-in_default : goal.returns-in_default
+returns-in_default c =
+    query_entry (size (goal.at.returns-in_default c).Else-not-fits) c.check_entries-reply.result (walked (goal.at.returns-in_default c).After-check_entries-reply) c.in_default.field-0 c.in_default.is
+
+pub overflow_sub-last : goal.overflow_sub-last
+overflow_sub-last c =
+    query_some (size (goal.at.overflow_sub-last c).Else-not-fits) c.check_entries-reply.result (walked (goal.at.overflow_sub-last c).After-check_entries-reply) c.in-Count.n c.in-Count.is
+
+pub returns-then-sort_at-eq-PATH : goal.returns-then-sort_at-eq-PATH
+returns-then-sort_at-eq-PATH c =
+    query_path (size (goal.at.returns-then-sort_at-eq-PATH c).Else-not-fits) c.check_entries-reply.result (walked (goal.at.returns-then-sort_at-eq-PATH c).After-check_entries-reply) c.in-Count.n c.in-Count.is
+    (sym c.sort_at.ensures ∙ c.if-sort_at-eq-PATH.true)
+
+pub returns : goal.returns
+returns c =
+    rw c.refuse-2.ensures (query_no_path (size (goal.at.returns c).Else-not-fits) c.check_entries-reply.result (walked (goal.at.returns c).After-check_entries-reply) c.in-Count.n c.in-Count.is
+    (λ e. c.if-sort_at-eq-PATH.false (c.sort_at.ensures ∙ e)))

@@ -1,0 +1,13 @@
+-- `tables::height::height_below`: an entry is one higher than the higher of its operands.
+use Prim.Native.Nat.{ℕ, ◌+◌}
+use mathlib.Core.Path.{ap, ◌∙◌}
+use Rattle.tables.proofs.Heights.{height_read}
+use borrow.Author.Rules.{rules}
+use Rattle.tables.proofs.height.height_below.Goals as goal
+
+pub returns : goal.returns
+returns c =
+    let shape = c.shape_of-shape.ensures in
+    ap (λ (h : ℕ). h + 1) c.higher.ensures
+    ∙ height_read c.args.heights.now c.entry_at-entry.result c.entry_at-entry.ensures
+    shape.left c.operand_height-left.ensures shape.right c.operand_height-right.ensures
