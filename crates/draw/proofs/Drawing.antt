@@ -8,7 +8,8 @@ use mathlib.Core.List.{[], ◌∷◌, ◌++◌, append_assoc, Memᴰ}
 use lib.ListN.{length, take, drop, length-append, length-drop, drop_of_length-le}
 use lib.Seq.{length-take-le, take-length, take_all, take-add, take-append-add, take-append-le, take_at}
 use borrow.Rule.Slice.PartMut.{mid_of, post_of, put_mid, mid_len, same_len_mid}
-use Rattle.bytes.specs.Bytes.{index_of, slice}
+use Rattle.std.proofs.Math.Seq.{slice}
+use Rattle.draw.specs.Place.{index_of}
 use Rattle.reply.specs.Bytes.{Bytes}
 use Rattle.lines.specs.Line.{longest}
 use Rattle.draw.specs.Drawn.{Drawn, none, one_more}

@@ -3,8 +3,9 @@ ghost use Rattle.std.specs.Prelude.{◌≤◌, length};
 ghost use Rattle.io.specs.Counts.{IsPrefixLen};
 ghost use Rattle.draw.specs.Inner.{MoreRead};
 
-use libc::close;
-use os::open_read;
+use std::fs::File;
+use std::io::Read;
+use std::rt::Files;
 
 // How many bytes were read, or that a file cannot be read.
 #[derive(Drop)]
@@ -21,24 +22,23 @@ pub struct Loaded {
 }
 
 // One read, behind the `done` bytes that are there. Where it gives 0 bytes, nothing is left to read.
-pub fn read_more(file: i32, buffer: &mut [u8], done: usize) -> More
+pub fn read_more<R: Read>(source: &mut R, buffer: &mut [u8], done: usize) -> More
     requires { done ≤ length buffer.old }
     ensures { MoreRead result done buffer.new }
 {
-    let got = libc::read(file, &mut buffer[done..]);
-    if got < 0 {
-        return More::Unreadable;
+    match source.read(&mut buffer[done..]) {
+        Ok(n) => More::Size(n),
+        Err(_) => More::Unreadable,
     }
-    More::Size(io::count(got, &buffer[done..]))
 }
 
 // The whole file, or as much of it as the buffer holds.
-fn read_all(file: i32, buffer: &mut [u8]) -> Loaded
+fn read_all<R: Read>(source: &mut R, buffer: &mut [u8]) -> Loaded
     ensures { IsPrefixLen result.size buffer.new }
 {
     let mut done = 0;
     while done < buffer.len() {
-        let more = read_more(file, buffer, done);
+        let more = read_more(source, buffer, done);
         let More::Size(n) = more else {
             return Loaded {
                 size: 0,
@@ -57,17 +57,14 @@ fn read_all(file: i32, buffer: &mut [u8]) -> Loaded
 }
 
 // The file of a name.
-pub fn load(path: &[u8], buffer: &mut [u8]) -> Loaded
+pub fn load<R: Files>(rt: &R, path: &str, buffer: &mut [u8]) -> Loaded
     ensures { IsPrefixLen result.size buffer.new }
 {
-    let file = open_read(path);
-    if file < 0 {
-        return Loaded {
+    match File::open(rt, path) {
+        Ok(mut file) => read_all(&mut file, buffer),
+        Err(_) => Loaded {
             size: 0,
             readable: false,
-        };
+        },
     }
-    let loaded = read_all(file, buffer);
-    close(file);
-    loaded
 }

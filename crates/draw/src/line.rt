@@ -1,12 +1,14 @@
 // Lines of the input and the lines that answer them: what the program does besides moving bytes.
-ghost use Rattle.std.specs.Prelude.{◌≤◌, length};
+ghost use Rattle.std.specs.Prelude.{◌≡◌, ◌+◌, ◌≤◌, length};
+ghost use Rattle.std.proofs.Math.Seq.{slice};
 ghost use Rattle.lines.specs.Line.{longest};
 ghost use Rattle.draw.specs.Drawn.{LineFor};
 ghost use Rattle.draw.specs.Inner.{LineWritten, LinesAnswered};
+ghost use Rattle.draw.specs.Place.{index_of};
 
-use bytes::scan::find;
 use curator::curators_answer;
 use lines::{LONGEST, write_line};
+use memchr::memchr;
 use reader::read_text;
 use reply::{BITMAP_ROOM, Reply, TABLE_ROOM};
 
@@ -26,6 +28,19 @@ fn answer_line(roll: &[u8], view: &[u8], filters: &[u8], text: &[u8], out: &mut 
     let size = 6 * n;
     let reply = curators_answer(roll, view, filters, &table[..size], &mut map);
     write_line(reply, &map, out)
+}
+
+// Where a byte first stands from one place up to another, or the other where there is none.
+fn find(a: &[u8], from: usize, to: usize, b: u8) -> usize
+    requires ordered { from ≤ to }
+    requires within { to ≤ length a.now }
+    ensures first { result ≡ from + index_of b (slice from to a.now) }
+    ensures bound { result ≤ to }
+{
+    match memchr(b, &a[from..to]) {
+        Some(i) => from + i,
+        None => to,
+    }
 }
 
 // How far the input is answered, and how many bytes were written for it.

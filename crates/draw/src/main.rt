@@ -12,19 +12,25 @@ use reply::{FILTER_ENTRIES, NODES, RECORDS};
 use stream::{draw, unreadable};
 
 // A file that is longer than its table may be is cut one record behind that, and is refused by its length all the same.
-fn main() {
+fn main(rt: HostRuntime) {
     let mut roll = [0u8; 4 * NODES + 4];
     let mut view = [0u8; 6 * RECORDS + 6];
     let mut filters = [0u8; 6 * FILTER_ENTRIES + 6];
-    let roll_file = load(b"roll.rec", &mut roll);
-    let view_file = load(b"view.rec", &mut view);
-    let filter_file = load(b"filters.rec", &mut filters);
+    let roll_file = load(&rt, "roll.rec", &mut roll);
+    let view_file = load(&rt, "view.rec", &mut view);
+    let filter_file = load(&rt, "filters.rec", &mut filters);
     if roll_file.readable & view_file.readable & filter_file.readable {
         let nodes = roll_file.size;
         let records = view_file.size;
         let entries = filter_file.size;
-        draw(&roll[..nodes], &view[..records], &filters[..entries]);
+        draw(
+            rt.stdin(),
+            rt.stdout(),
+            &roll[..nodes],
+            &view[..records],
+            &filters[..entries],
+        );
     } else {
-        unreadable();
+        unreadable(rt.stdout());
     }
 }

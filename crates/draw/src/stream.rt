@@ -5,9 +5,9 @@ ghost use Rattle.draw.specs.Inner.{AllSent, Kept, KeptFew};
 
 use crate::file::{More, read_more};
 use crate::line::answer_lines;
-use libc::{STDIN_FILENO, STDOUT_FILENO};
 use lines::{LONGEST, write_line};
 use reply::{BITMAP_ROOM, Reason, TEXT_BYTES, refuse};
+use std::io::{Print, Stdin, Stdout};
 
 // What one read gives; and what is written at once: 65,536 bytes and the longest line behind them.
 const INPUT: usize = 65536;
@@ -18,11 +18,11 @@ const OUTPUT: usize = 65536 + LONGEST;
 const TOO_LONG: usize = TEXT_BYTES + 1;
 
 // A file that cannot be opened or read gives a single line.
-pub fn unreadable() {
+pub fn unreadable(to: Stdout) {
     let map = [0u8; BITMAP_ROOM];
     let mut out = [0u8; OUTPUT];
     let size = write_line(refuse(Reason::FileUnreadable, 0), &map, &mut out);
-    io::write_all(STDOUT_FILENO, &out[..size]);
+    let _ = to.write_all(&out[..size]);
 }
 
 // How far the input is answered, or that a write failed.
@@ -33,7 +33,14 @@ enum Sent {
 }
 
 // Answers the whole lines of the input and writes the answers out.
-fn send_lines(roll: &[u8], view: &[u8], filters: &[u8], input: &[u8], out: &mut [u8]) -> Sent
+fn send_lines(
+    to: Stdout,
+    roll: &[u8],
+    view: &[u8],
+    filters: &[u8],
+    input: &[u8],
+    out: &mut [u8],
+) -> Sent
     requires { longest ≤ length out.old }
     ensures { AllSent result input.now }
 {
@@ -45,7 +52,7 @@ fn send_lines(roll: &[u8], view: &[u8], filters: &[u8], input: &[u8], out: &mut 
         if read == 0 {
             break;
         }
-        if !io::write_all(STDOUT_FILENO, &out[..written]) {
+        if to.write_all(&out[..written]).is_err() {
             return Sent::Failed;
         }
         at += read;
@@ -79,6 +86,7 @@ enum Turn {
 
 // The last line counts without a line feed, if it has bytes.
 fn last_line(
+    to: Stdout,
     roll: &[u8],
     view: &[u8],
     filters: &[u8],
@@ -92,11 +100,13 @@ fn last_line(
         return;
     }
     buffer[kept] = b'\n';
-    send_lines(roll, view, filters, &buffer[..kept + 1], out);
+    send_lines(to, roll, view, filters, &buffer[..kept + 1], out);
 }
 
 // One read, behind the bytes that were kept: all that was answered is out before it waits.
 fn read_on(
+    source: &mut Stdin,
+    to: Stdout,
     roll: &[u8],
     view: &[u8],
     filters: &[u8],
@@ -107,16 +117,16 @@ fn read_on(
     requires { (kept < length buffer.old) × (longest ≤ length out.old) }
     ensures { KeptFew result }
 {
-    let more = read_more(STDIN_FILENO, buffer, kept);
+    let more = read_more(source, buffer, kept);
     let More::Size(n) = more else {
         return Turn::Over;
     };
     if n == 0 {
-        last_line(roll, view, filters, buffer, kept, out);
+        last_line(to, roll, view, filters, buffer, kept, out);
         return Turn::Over;
     }
     let end = kept + n;
-    let sent = send_lines(roll, view, filters, &buffer[..end], out);
+    let sent = send_lines(to, roll, view, filters, &buffer[..end], out);
     let Sent::UpTo(at) = sent else {
         return Turn::Over;
     };
@@ -125,13 +135,22 @@ fn read_on(
 
 // Answers standard input to its end. A proved loop has to end, and nothing says that the input does: so it counts its turns down, from a
 // number that no run uses up.
-pub fn draw(roll: &[u8], view: &[u8], filters: &[u8]) {
+pub fn draw(mut source: Stdin, to: Stdout, roll: &[u8], view: &[u8], filters: &[u8]) {
     let mut buffer = [0u8; INPUT];
     let mut out = [0u8; OUTPUT];
     let mut kept = 0;
     let mut turns = u64::MAX;
     while turns > 0 {
-        let next = read_on(roll, view, filters, &mut buffer, kept, &mut out);
+        let next = read_on(
+            &mut source,
+            to,
+            roll,
+            view,
+            filters,
+            &mut buffer,
+            kept,
+            &mut out,
+        );
         let Turn::Kept(n) = next else {
             return;
         };
