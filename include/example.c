@@ -1,6 +1,6 @@
 /* A curator's answer from C: reads roll.rec, view.rec and filters.rec of a folder and answers one query text by calls 2 and 6.
  *
- *     rt staticlib kepolas
+ *     bin/library
  *     cc -std=c11 -Iinclude include/example.c target/staticlib/libkepolas.a -o target/example-c
  *     target/example-c examples/worked v/v
  *

@@ -1,5 +1,5 @@
-/* The seven calls of Kepolas, printing and the check of a roll's content, for C and C++. `rt staticlib kepolas` writes the library to
- * target/staticlib/libkepolas.a. docs/MANUAL.md has all rules; what a call promises is proved (crates/kepolas/src/lib.rt). These
+/* The seven calls of Kepolas, printing and the check of a roll's content, for C and C++. `bin/library` writes the library to
+ * target/staticlib/libkepolas.a. docs/MANUAL.md has all rules; what a call promises is proved (crates/kepolas_c/src/lib.rt). These
  * declarations are not, but a test holds them to that source (rust/tests/declarations.rs).
  *
  * - Bytes are handed over as a pointer and a length. The pointer must be good for its length; where the length is 0 it may be any pointer

@@ -14,7 +14,7 @@ use compare::records::{chain, entry, grown_roll, node, wide, NO_PARENT};
 use second::calls::nodes_of_bitmap;
 use second::Reply;
 
-/// The proved program, as `rt check draw` and the gate build it.
+/// The proved program, as `bin/draw` and the gate build it.
 const PROGRAM: &str = concat!(env!("CARGO_MANIFEST_DIR"), "/../target/bin/draw");
 
 const WORKED: &str = concat!(env!("CARGO_MANIFEST_DIR"), "/../examples/worked");
@@ -81,7 +81,7 @@ impl Folder {
 
     fn start(&self, output: Stdio) -> Child {
         let mut program = Command::new(PROGRAM);
-        program.current_dir(&self.0).stdin(Stdio::piped()).stdout(output).spawn().expect("rt check draw builds it")
+        program.current_dir(&self.0).stdin(Stdio::piped()).stdout(output).spawn().expect("bin/draw builds it")
     }
 
     /// All that the program writes when its input comes in pieces of these sizes, over and over.

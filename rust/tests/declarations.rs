@@ -1,7 +1,7 @@
 //! No compiler holds the declarations of the calls to the library. So texts are compared: the proved source, the header for C and this
 //! crate declare the same functions, with the same parameters in the same order.
 
-const PROVED: &str = include_str!("../../crates/kepolas/src/lib.rt");
+const PROVED: &str = include_str!("../../crates/kepolas_c/src/lib.rt");
 const HEADER: &str = include_str!("../../include/kepolas.h");
 const DECLARED: &str = include_str!("../src/calls.rs");
 

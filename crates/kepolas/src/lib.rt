@@ -43,37 +43,28 @@ pub fn tell(reply: Reply, told: &mut usize) -> u64
 }
 
 // Call 1.
-#[unsafe(no_mangle)]
-pub extern "C" fn kepolas_check_roll(roll: &[u8], told: &mut usize) -> u64
+pub fn kepolas_check_roll(roll: &[u8], told: &mut usize) -> u64
     ensures { Tells (RollChecked roll.now) result told.new }
 {
     tell(check_roll(roll), told)
 }
 
 // Call 2.
-#[unsafe(no_mangle)]
-pub extern "C" fn kepolas_read_text(text: &[u8], room: &mut [u8], told: &mut usize) -> u64
+pub fn kepolas_read_text(text: &[u8], room: &mut [u8], told: &mut usize) -> u64
     ensures { Tells (λ s. TextRead text.now room.old s room.new) result told.new }
 {
     tell(read_text(text, room), told)
 }
 
 // Call 3.
-#[unsafe(no_mangle)]
-pub extern "C" fn kepolas_answer_on_roll(
-    roll: &[u8],
-    query: &[u8],
-    room: &mut [u8],
-    told: &mut usize,
-) -> u64
+pub fn kepolas_answer_on_roll(roll: &[u8], query: &[u8], room: &mut [u8], told: &mut usize) -> u64
     ensures { Tells (λ s. Answered roll.now query.now room.old s room.new) result told.new }
 {
     tell(answer_on_roll(roll, query, room), told)
 }
 
 // Call 4.
-#[unsafe(no_mangle)]
-pub extern "C" fn kepolas_cut_view(
+pub fn kepolas_cut_view(
     roll: &[u8],
     annotation: &[u8],
     filters: &[u8],
@@ -86,8 +77,7 @@ pub extern "C" fn kepolas_cut_view(
 }
 
 // Call 5.
-#[unsafe(no_mangle)]
-pub extern "C" fn kepolas_rewrite(
+pub fn kepolas_rewrite(
     annotation: &[u8],
     filters: &[u8],
     query: &[u8],
@@ -100,8 +90,7 @@ pub extern "C" fn kepolas_rewrite(
 }
 
 // Call 6.
-#[unsafe(no_mangle)]
-pub extern "C" fn kepolas_curators_answer(
+pub fn kepolas_curators_answer(
     roll: &[u8],
     annotation: &[u8],
     filters: &[u8],
@@ -118,8 +107,7 @@ pub extern "C" fn kepolas_curators_answer(
 }
 
 // Call 7 gives a part and no number: it tells where the part starts and ends in the bytes of the roll, an empty one by 0 and 0.
-#[unsafe(no_mangle)]
-pub extern "C" fn kepolas_run_of(roll: &[u8], k: usize, start: &mut usize, end: &mut usize)
+pub fn kepolas_run_of(roll: &[u8], k: usize, start: &mut usize, end: &mut usize)
     ensures { RunPlace roll.now k start.new end.new }
 {
     let size = run_of(roll, k).len();
@@ -134,21 +122,14 @@ pub extern "C" fn kepolas_run_of(roll: &[u8], k: usize, start: &mut usize, end: 
 }
 
 // A query table printed as text: request Q-1 of document 02.
-#[unsafe(no_mangle)]
-pub extern "C" fn kepolas_print_query(query: &[u8], room: &mut [u8], told: &mut usize) -> u64
+pub fn kepolas_print_query(query: &[u8], room: &mut [u8], told: &mut usize) -> u64
     ensures { Tells (λ s. TablePrinted query.now room.old s room.new) result told.new }
 {
     tell(print_query(query, room), told)
 }
 
 // The check of a roll's content.
-#[unsafe(no_mangle)]
-pub extern "C" fn kepolas_check_content(
-    roll: &[u8],
-    rules: &[u8],
-    list: &[u8],
-    told: &mut usize,
-) -> u64
+pub fn kepolas_check_content(roll: &[u8], rules: &[u8], list: &[u8], told: &mut usize) -> u64
     ensures { Tells (ContentChecked roll.now rules.now list.now) result told.new }
 {
     tell(check_content(roll, rules, list), told)
