@@ -31,7 +31,7 @@ module _ {c : ℕ} {to : ℕ → ℕ} where
   pattern_stood {s = s} {hs = hs} {table = table} (e ∷ more) (here, turn) next stood =
       rw (append_assoc table (renumber to e ∷ []) (map (renumber to) more))
       at
-      (pattern_stood more turn (next_end (mean s e) (renumber to e) next)
+      (pattern_stood {s = s ++ mean s e ∷ []} {hs = hs ++ height hs e ∷ []} {table = table ++ renumber to e ∷ []} more turn (next_end (mean s e) (renumber to e) next)
       (stood_end (mean s e) (renumber to e) next (height hs e) stood (entry_behind stood here)))
 
   -- and the table stays sound, where no entry is too high
@@ -48,7 +48,7 @@ module _ {c : ℕ} {to : ℕ → ℕ} where
       let fits : c + height hs e ≤ h = omega (arith, low (length hs), last) in
       let stands = stood_end (mean s e) (renumber to e) next (height hs e) stood (entry_behind stood here) in
       rw (append_assoc table (renumber to e ∷ []) (map (renumber to) more))
-      at (pattern_sound more turn (next_end (mean s e) (renumber to e) next) stands low (sound_end (entry_behind stood here) fits sound))
+      at (pattern_sound {s = s ++ mean s e ∷ []} {hs = hs ++ height hs e ∷ []} {table = table ++ renumber to e ∷ []} more turn (next_end (mean s e) (renumber to e) next) stands low (sound_end (entry_behind stood here) fits sound))
 
 -- The test: no label is used, and each operand is of the sort that its kind wants.
 unfoldable pub same_sort : Sort → Sort → Bool

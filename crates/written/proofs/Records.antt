@@ -8,7 +8,7 @@ use lib.ListN.{length, get_or, length-append}
 use Rattle.tree.specs.Tree.{Label}
 use Rattle.query.specs.Syntax as syntax
 use Rattle.query.specs.Syntax.{Filter, or}
-use Rattle.query.specs.Kind.{filter, kinds, find}
+use Rattle.query.specs.Kind.{kinds, find}
 use Rattle.query.specs.Table.{Entries, LabelField, read_on, operand_height, height, Meant, a_path, a_filter, the_path, the_filter, path_in, filter_in, build, mean, filter_at}
 use Rattle.view.specs.Annotation.{AnnotationRecord, RecordForm, Rule}
 use Rattle.theorem.proofs.VisibleFilter.{some_of, pair_of, showing}
