@@ -1,7 +1,7 @@
 -- What the writer must be given, and what it chooses for an entry. Nothing here has to be believed: call 5's promise is stated without it.
 use Rattle.std.specs.Prelude.{ℕ, ◌+◌, ◌*◌, ◌≤◌, ◌<◌, ◌≡◌, length}
 use Rattle.reply.specs.Bytes.{Bytes}
-use Rattle.query.specs.Table.{Entry, entries}
+use Rattle.query.specs.Table.{Entry}
 use Rattle.view.specs.Annotation.{records, record_at}
 use Rattle.written.specs.Written.{raise, axis_row, chosen}
 use Rattle.tables.specs.Laid.{fields}

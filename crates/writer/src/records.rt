@@ -9,7 +9,7 @@ use checks::{count, record_at};
 use tables::{AND, LABELLED, LEADS, OR, STAY, THEN, put};
 
 // An entry's kind, label and operands.
-#[derive(Drop)]
+#[derive(Clone, Copy)]
 struct Fields(u8, u8, usize, usize);
 
 // The nine entries of a record, the first with the number `b`: its pair of labels, the pair with the filter, and either with what the

@@ -9,7 +9,7 @@ use reply::wide;
 use tables::{CHILD, EITHER, LEADS, NEXT, NOT, OR, PARENT, PREVIOUS, STAR, STAY, THEN};
 
 // A kind and its operands.
-#[derive(Drop)]
+#[derive(Clone, Copy)]
 struct Row(u8, u8, u8);
 
 // 0: some record is the node's; 1: some record shows it.
