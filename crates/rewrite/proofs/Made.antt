@@ -31,7 +31,7 @@ use Rattle.writer.proofs.Recording.{written_size}
 use Rattle.theorem.proofs.VisibleFilter.{visible_right}
 use Rattle.rewrite.specs.Promise.{Faithful, Rewritten}
 use Rattle.rewrite.specs.Visible.{visible_entry, VisibleTold}
-use Rattle.rewrite.proofs.Given.{table-front}
+use Rattle.rewrite.proofs.Given.{table_front}
 use Rattle.rewrite.proofs.Faithful.{visible_on, rewritten_faithful}
 
 -- the part of some bytes from a place on, as it is lent
@@ -228,4 +228,4 @@ module _ {annotation filters query : Bytes} (annotated : Annotated annotation fi
         → after ≡ laid (lent copied size) 0 (written first rs own)
         → VisibleTold annotation filters (take (6 * (first + more)) (restored copied size after))
     unfolding made
-    made_told e many laid_there = rw (table-front _ _ _ _ _ _ (made e many laid_there)) visible_told
+    made_told e many laid_there = rw (table_front _ _ _ _ _ _ (made e many laid_there)) visible_told

@@ -10,7 +10,6 @@ ghost use Rattle.view.specs.Promise.{Annotated};
 ghost use Rattle.rewrite.specs.Promise.{Rewritten, RewriteGiven};
 ghost use Rattle.rewrite.specs.Visible.{visible_entry, VisibleTold};
 
-use bytes::copy;
 use checks::{count as records_of, ready_to_rewrite};
 use reply::Reply;
 use tables::count;
@@ -24,7 +23,8 @@ pub fn write_rewritten(annotation: &[u8], filters: &[u8], query: &[u8], room: &m
     ensures rewritten { Rewritten annotation.now filters.now query.now room.old result room.new }
     ensures visible_told { VisibleTold annotation.now filters.now (take (6 * result) room.new) }
 {
-    let size = copy(filters, room);
+    let size = filters.len();
+    room[..size].copy_from_slice(filters);
     let first = count(filters);
     let behind = write_behind(&mut room[size..], annotation, query, first);
     first + behind
