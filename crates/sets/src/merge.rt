@@ -6,7 +6,7 @@ ghost use Rattle.sets.specs.Sets.{In, Holds, Inside};
 ghost use Rattle.sets.specs.Merge.{Kept, Front};
 
 // What is kept: what is in either set, in both, or in the first and not in the second.
-#[derive(Drop)]
+#[derive(Clone, Copy)]
 pub enum Merge {
     Either,
     Both,
