@@ -1,18 +1,16 @@
 -- `link`. The loop's invariant: the links are right for the pairs of siblings whose second has been
 -- passed. The measure is the number of records that are left.
-use Prim.Native.Nat.{◌-◌, ◌≤◌, ◌<◌}
+use Prim.Native.Nat.{◌<◌}
 use native.Mathlib.Omega.{arith}
 use mathlib.Core.Path.{◌≡◌, subst}
-use mathlib.Core.Logic.{⊎_elim}
-use borrow.Author.Rules.{rules}
 use lib.ListN.{length}
 use Rattle.roll.specs.declared.previous.Sibling.{Sibling}
 use Rattle.roll.specs.Roll.{nodes}
 use Rattle.roll.specs.Sibling.{PreviousIs}
 use Rattle.roll.proofs.Deciding.{roll_most}
-use Rattle.links.proofs.Linking.{SiblingsTo, siblings_none, siblings_more, siblings_same, siblings_all}
+use Rattle.links.proofs.Linking.{siblings_none, siblings_more, siblings_same, siblings_all}
 use Rattle.links.proofs.link.Goals as goal
-use Rattle.links.proofs.link.Goals.{After-previous_of-before, In-At}
+use Rattle.links.proofs.link.Goals.{After-previous_of-before, In-At, in-At, in_default}
 
 -- the answer on the previous sibling, as a branch has it
 told : (c : After-previous_of-before) {answer : Sibling} → c.previous_of-before.result ≡ answer
@@ -24,7 +22,7 @@ told c e =
 low : (c : In-At) → (c.in-At.i < 4096) × (c.loop-j.j < 4096)
 low c =
     let most = roll_most c.requires.roll in
-    let next = told ⟪After-previous_of-before⟫ c.in-At.is in
+    let next = subst (PreviousIs (nodes c.args.roll.now) c.loop-j.j) c.in-At.is c.previous_of-before.ensures in
     omega (arith, next.order, next.right.node)
 
 pub loop-j-init : goal.loop-j-init
@@ -56,10 +54,10 @@ loop-j-preserved c =
     let links = c.loop-j.invariant.1 in
     let most = roll_most c.requires.roll in (
       omega arith,
-      ⊎_elim
-          (λ w. rw w.3 (siblings_more links most (told (goal.at.loop-j-preserved c).After-previous_of-before w.1.given.1)))
-          (λ w. rw w.2 (siblings_same links (told (goal.at.loop-j-preserved c).After-previous_of-before w.1.given.1)))
-          c.match-before.branch,
+      elim c.match-before.branch [
+        | in-At w ↦ rw w.links-is (siblings_more links most (told (goal.at.loop-j-preserved c).After-previous_of-before w.in-At.is))
+        | in_default w ↦ rw w.links-is (siblings_same links (told (goal.at.loop-j-preserved c).After-previous_of-before w.in_default.is))
+      ],
     )
 
 pub returns : goal.returns

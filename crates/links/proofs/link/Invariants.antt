@@ -1,16 +1,8 @@
 -- `link`. The loop's invariant: the links are right for the pairs of siblings whose second has been
 -- passed. The measure is the number of records that are left.
-use Prim.Native.Nat.{◌-◌, ◌≤◌, ◌<◌}
-use native.Mathlib.Omega.{arith}
-use mathlib.Core.Path.{◌≡◌, subst}
-use mathlib.Core.Logic.{⊎_elim}
-use borrow.Author.Rules.{rules}
-use lib.ListN.{length}
-use Rattle.roll.specs.declared.previous.Sibling.{Sibling}
+use Prim.Native.Nat.{◌-◌, ◌≤◌}
 use Rattle.roll.specs.Roll.{nodes}
-use Rattle.roll.specs.Sibling.{PreviousIs}
-use Rattle.roll.proofs.Deciding.{roll_most}
-use Rattle.links.proofs.Linking.{SiblingsTo, siblings_none, siblings_more, siblings_same, siblings_all}
+use Rattle.links.proofs.Linking.{SiblingsTo}
 use Rattle.links.proofs.link.Given as goal
 
 abbrev pub invariant-loop-j : goal.invariant-loop-j
