@@ -12,7 +12,7 @@ use Rattle.sets.specs.Sets.{Holds, Image}
 use Rattle.steps.specs.Axis.{AlongAny}
 use Rattle.steps.specs.Star.{StepFrom}
 use Rattle.steps.specs.declared.axis.Axes.{Axes}
-use Rattle.steps.proofs.Axes.{any_node, any_end}
+use Rattle.steps.proofs.SeveralAxes.{any_node, any_end}
 use Rattle.evaluator.proofs.Walks.{Then}
 use Rattle.evaluator.specs.declared.ways.Way.TheVariants.{Along}
 use Rattle.evaluator.specs.Ways.{Leads}

@@ -1,15 +1,15 @@
 -- A star goes on from one node after the other: from each that is in the set and a source, once. Assumes nothing.
-use Prim.Native.Nat.{ℕ, ◌+◌, ◌-◌, ◌*◌, ◌/◌, ◌%◌, ◌^◌, ◌≤◌, ◌<◌}
+use Prim.Native.Nat.{ℕ, ◌+◌, ◌-◌, ◌*◌, ◌≤◌, ◌<◌}
 use native.Mathlib.Decide.{dec_lt}
 use native.Mathlib.Omega.{arith}
-use mathlib.Core.Path.{◌≡◌, refl, sym, subst}
+use mathlib.Core.Path.{◌≡◌}
 use mathlib.Core.Logic.{◌↔◌, ◌⊎◌, inl, inr, ⊎_elim}
 use mathlib.Core.List.{List}
-use lib.ListN.{length, get_or}
+use lib.ListN.{get_or}
 use lib.Bits.{bit_and, bit_or, bit_xor}
 use Rattle.tree.specs.Tree.{Tree}
 use Rattle.query.specs.Meaning.{Star, stop, step}
-use Rattle.query.proofs.Closure.{star_keeps, star_more, star_append}
+use Rattle.query.proofs.Closure.{star_keeps, star_append}
 use Rattle.sets.specs.Bits.{digit}
 use Rattle.sets.specs.Sets.{In, Holds, Image}
 use Rattle.sets.proofs.Digits.{and_one, minus_one, none_of_zero}

@@ -1,5 +1,5 @@
 pub mod Adding
-pub mod Axes
+pub mod SeveralAxes
 pub mod Going
 pub mod Members
 pub mod Reaching

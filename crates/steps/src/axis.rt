@@ -12,7 +12,7 @@ pub enum Axis {
 }
 
 // Which axes a step may take.
-#[derive(Drop)]
+#[derive(Clone, Copy)]
 pub struct Axes {
     pub child: bool,
     pub parent: bool,
