@@ -9,7 +9,7 @@ use mathlib.Core.List.{List}
 use lib.ListN.{length}
 use Rattle.tree.specs.Tree.{Tree, InOrder}
 use Rattle.query.specs.Syntax.{Path, Filter, self, stay, then, either, star}
-use Rattle.query.specs.Meaning.{Star, reach, holds}
+use Rattle.query.specs.Meaning.{reach, holds}
 use Rattle.query.specs.Turn.{turn, free}
 use Rattle.query.proofs.Inside.{reach_inside}
 use Rattle.query.proofs.Turn.{turn_right}

@@ -9,7 +9,7 @@ use crate::kinds::{CHILD, NEXT, PARENT};
 use steps::{Axis, turned};
 
 // Forwards; backwards, with the axes turned round and the steps in the other order; or forwards with every filter taken to hold.
-#[derive(Drop)]
+#[derive(Clone, Copy)]
 pub enum Course {
     Forwards,
     Backwards,
@@ -17,7 +17,7 @@ pub enum Course {
 }
 
 // How the path of an entry is walked: on a course. Of one filter, of number `known`, the nodes where it holds may be known beforehand.
-#[derive(Drop)]
+#[derive(Clone, Copy)]
 pub struct Walk {
     pub entry: usize,
     pub course: Course,

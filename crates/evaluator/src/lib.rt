@@ -32,7 +32,7 @@ use tables::entry_at;
 use ways::{DEEP, Way, way_of};
 
 // What a walk reaches from a set of nodes.
-#[cycle(by_rounds_image_narrow_of_two_sources_star)]
+#[cycle(walk)]
 pub fn image(
     roll: &[u8],
     links: &[u16; 8192],
@@ -92,7 +92,7 @@ pub fn image(
 
 // What a walk reaches in zero or more goes: along axes each node is gone on from once; of a star it is what that star
 // reaches; and a path made of others goes by rounds.
-#[cycle(by_rounds_image_narrow_of_two_sources_star)]
+#[cycle(walk)]
 fn star(
     roll: &[u8],
     links: &[u16; 8192],
@@ -126,7 +126,7 @@ fn star(
 
 // The star of a walk along one path and then another: where one of the two is a filter at hand and the other leads along axes, it goes
 // on from each node once. A step and then the filter, many times, is a step, then the filter and a step many times, and the filter.
-#[cycle(by_rounds_image_narrow_of_two_sources_star)]
+#[cycle(walk)]
 fn of_two(
     roll: &[u8],
     links: &[u16; 8192],
@@ -169,7 +169,7 @@ fn of_two(
 
 // Where a star may go on that starts from a set: at the nodes where the filter holds that the walk stays by. All nodes are asked at once.
 // If it holds nowhere in the set, the star ends there.
-#[cycle(by_rounds_image_narrow_of_two_sources_star)]
+#[cycle(walk)]
 fn sources(
     roll: &[u8],
     links: &[u16; 8192],
@@ -191,7 +191,7 @@ fn sources(
 }
 
 // What a walk reaches in zero or more goes, whatever it is made of: each round goes on from what is new in the last one, until nothing is.
-#[cycle(by_rounds_image_narrow_of_two_sources_star)]
+#[cycle(walk)]
 fn by_rounds(
     roll: &[u8],
     links: &[u16; 8192],
@@ -217,7 +217,7 @@ fn by_rounds(
 
 // The nodes of a set where the filter of entry e holds. Whether a path leads somewhere is asked backwards from where it could lead if its
 // filters all held: these nodes are found with no filter evaluated, and all that it leads to is among them.
-#[cycle(by_rounds_image_narrow_of_two_sources_star)]
+#[cycle(walk)]
 pub fn narrow(
     roll: &[u8],
     links: &[u16; 8192],
