@@ -4,7 +4,6 @@ use native.Mathlib.Omega.{arith}
 use mathlib.Core.Path.{◌≡◌, sym, subst}
 use lib.ListN.{length}
 use Rattle.reply.specs.Bytes.{Bytes}
-use Rattle.query.specs.Kind.{path}
 use Rattle.query.specs.Syntax.{Path}
 use Rattle.query.specs.Table.{Entries, entries, entry_bytes, height_at, EntryRight}
 use Rattle.query.specs.Fault.{curators, last, Query}

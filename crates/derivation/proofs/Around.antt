@@ -74,27 +74,40 @@ shut bracket.Curly h f = term_read h.0 h.2 (h.1 f)
 -- no joining byte opens a bracket
 pub joint_opens_nothing : (c : Chain) → ¬ T (opening (joining c))
 unfolding opening
-joint_opens_nothing c = elim c [ chain.Path ↦ λ t. t | chain.Sequence ↦ λ t. t | chain.Filter ↦ λ t. t | chain.Conjunction ↦ λ t. t ]
+joint_opens_nothing chain.Path = λ t. t
+joint_opens_nothing chain.Sequence = λ t. t
+joint_opens_nothing chain.Filter = λ t. t
+joint_opens_nothing chain.Conjunction = λ t. t
 
 -- nor does one that closes a bracket
 pub close_opens_nothing : (k : Bracket) → ¬ T (opening (closing_byte k))
 unfolding opening
-close_opens_nothing k = elim k [ bracket.Square ↦ λ t. t | bracket.Round ↦ λ t. t | bracket.Curly ↦ λ t. t ]
+close_opens_nothing bracket.Square = λ t. t
+close_opens_nothing bracket.Round = λ t. t
+close_opens_nothing bracket.Curly = λ t. t
 
 -- the byte that opens a bracket does, where it may
 pub bracket_opens : (k : Bracket) → T (opening (opening_byte k))
 unfolding opening
-bracket_opens k = elim k [ bracket.Square ↦ tt | bracket.Round ↦ tt | bracket.Curly ↦ tt ]
+bracket_opens bracket.Square = tt
+bracket_opens bracket.Round = tt
+bracket_opens bracket.Curly = tt
 
 pub opened : (k : Bracket) (h : Holder k) (b : Bytes)
     → look (offer (outside k h)) (opening_byte k ∷ b) ≡ goes (wanted (inside k) (held k h) (λ x. x))
-opened k = elim k [ bracket.Square ↦ λ h b. refl | bracket.Round ↦ λ h b. refl | bracket.Curly ↦ λ h b. refl ]
+opened bracket.Square h b = refl
+opened bracket.Round h b = refl
+opened bracket.Curly h b = refl
 
 -- with one more open
 pub one_deeper : (k : Bracket) (h : Holder k) → around_depth (inside k) (held k h) ≡ suc (depth (outside k h))
-one_deeper k = elim k [ bracket.Square ↦ λ h. refl | bracket.Round ↦ λ h. refl | bracket.Curly ↦ λ h. refl ]
+one_deeper bracket.Square h = refl
+one_deeper bracket.Round h = refl
+one_deeper bracket.Curly h = refl
 
 -- and what stands in it may only be closed
 pub closes : (k : Bracket) (h : Holder k) (x : Joined (inside k))
     → behind_chain (inside k) (held k h) x ≡ on (closing_byte k) (shut k h x) nothing
-closes k = elim k [ bracket.Square ↦ λ h x. refl | bracket.Round ↦ λ h x. refl | bracket.Curly ↦ λ h x. refl ]
+closes bracket.Square h x = refl
+closes bracket.Round h x = refl
+closes bracket.Curly h x = refl
