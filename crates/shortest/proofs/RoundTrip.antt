@@ -165,7 +165,7 @@ module _ {text table : Bytes} {n : ℕ} (w : Wrote text n table) where
     is_printed : (said : Said) → TablePrinted (take (6 * n) table) room' said text' → 1024 ≤ length room' → (c : ℕ) × (said ≡ count c)
     unfolding TablePrinted
     is_printed said x large =
-        elim x [
+        elim x as (λ k _ _. (c : ℕ) × (k ≡ count c)) [
           | done {c = c} l right given ↦ (c, refl)
           | short l ↦ absurd (omega arith)
           | turned_away {n = m} {p = i} l f ↦ absurd (print_wrong (take (6 * n) table) m i f wrote_printable)
