@@ -1,7 +1,7 @@
 -- A reader's answer, taken apart. Assumes nothing.
 use Prim.Native.Nat.{ℕ, ◌+◌, ◌-◌, ◌*◌, ◌≤◌}
 use native.Mathlib.Omega.{arith}
-use mathlib.Core.Path.{◌≡◌}
+use mathlib.Core.Path.{◌≡◌, refl}
 use mathlib.Core.Logic.{inl, inr}
 use mathlib.Core.List.{[], ◌∷◌}
 use lib.ListN.{length, get_or}
@@ -23,6 +23,12 @@ Failed p = OneOf (1 ∷ 2 ∷ []) (tag_of parsed.the_type p)
 pub not_failed : (to m : ℕ) → Failed (Got to m) → ⊥
 not_failed to m (inl e) = omega arith
 not_failed to m (inr e) = omega arith
+
+-- what is not read is a stop
+pub not_got : (p : Parsed) → ((at n : ℕ) → p ≡ Got at n → ⊥) → Failed p
+not_got (Got to m) h = absurd (h to m refl)
+not_got (Broken i) h = inl refl
+not_got (Deep i) h = inr refl
 
 -- an answer that failed says where
 pub failed : (p : Parsed) → Failed p → (s : Stop) × (i : ℕ) × StopsAt p s i

@@ -17,7 +17,7 @@ use Rattle.tokens.specs.Reading.{Line, one, Added, Entered, Follows, follows, st
 use Rattle.tokens.specs.Reading.{links}
 use Rattle.tokens.proofs.Entries.{added_on}
 use Rattle.tokens.proofs.Places.{here, not_at, none_of, nor}
-use Rattle.tokens.proofs.Answers.{Failed, not-failed}
+use Rattle.tokens.proofs.Answers.{Failed, not_failed}
 use Rattle.tokens.proofs.Following.{got_stands}
 
 -- A thing is read from `at` up to `next`, and what follows may add to it.
@@ -29,8 +29,10 @@ pub record Going (line : Line) (more : line.Thing → Bytes → Result line.Thin
 
 -- no byte that joins is 0
 pub joint_seen : (c : Chain) → 0 < joining c
-joint_seen c =
-    elim c [ chain.Path ↦ omega arith | chain.Sequence ↦ omega arith | chain.Filter ↦ omega arith | chain.Conjunction ↦ omega arith ]
+joint_seen chain.Path = omega arith
+joint_seen chain.Sequence = omega arith
+joint_seen chain.Filter = omega arith
+joint_seen chain.Conjunction = omega arith
 
 -- what is written for links that are joined
 writes : (c : Chain) (n : ℕ) (x y : Joined c)
@@ -61,7 +63,7 @@ module _ (c : Chain) {k : ℕ} {text : Bytes} {at : ℕ} {before : Bytes} {n : �
   -- the first link is not read
   pub not_started : {p : Parsed} {after : Bytes} → Failed p → Follows (links c) k text at before n p after
       → Follows (chains c) k text at before n p after
-  not_started f (follows {to = to} {m = m} rd st) = absurd (not-failed to m f)
+  not_started f (follows {to = to} {m = m} rd st) = absurd (not_failed to m f)
   not_started f (stops st rd w) = stops st (start_stops rd) w
 
   module _ {next m : ℕ} {mid : Bytes} (going : Chained c k text at before n next m mid) where
@@ -79,7 +81,7 @@ module _ (c : Chain) {k : ℕ} {text : Bytes} {at : ℕ} {before : Bytes} {n : �
       -- one more link is not read
       pub not_turned : {p : Parsed} {after : Bytes} → Failed p → Follows (links c) k text (next + 1) mid m p after
           → Follows (chains c) k text at before n p after
-      not_turned f (follows {to = to} {m = l} rd st) = absurd (not-failed to l f)
+      not_turned f (follows {to = to} {m = l} rd st) = absurd (not_failed to l f)
       not_turned f (stops {s = s} {i = i} st rd w) = stops st (going.goes_on (stopped s (drop i text)) (rw joint (joined_stops refl rd))) w
 
       -- one more link is read, and the two are joined

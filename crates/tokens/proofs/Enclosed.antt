@@ -24,10 +24,14 @@ use Rattle.tokens.proofs.Following.{no_stop}
 
 -- no bracket has the byte 0
 opening_seen : (b : Bracket) → 0 < opening_byte b
-opening_seen b = elim b [ Square ↦ omega arith | Round ↦ omega arith | Curly ↦ omega arith ]
+opening_seen Square = omega arith
+opening_seen Round = omega arith
+opening_seen Curly = omega arith
 
 closing_seen : (b : Bracket) → 0 < closing_byte b
-closing_seen b = elim b [ Square ↦ omega arith | Round ↦ omega arith | Curly ↦ omega arith ]
+closing_seen Square = omega arith
+closing_seen Round = omega arith
+closing_seen Curly = omega arith
 
 module _ (b : Bracket) (text : Bytes) (at : ℕ) (opens : get_or text at 0 ≡ opening_byte b) where
   -- the byte that opens the bracket is in the text

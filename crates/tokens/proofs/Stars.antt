@@ -14,7 +14,7 @@ use Rattle.tokens.specs.declared.answer.Parsed.TheVariants.{Got}
 use Rattle.tokens.specs.Reading.{one, Added, Follows, follows, stops, items, atoms}
 use Rattle.tokens.proofs.Entries.{added_on}
 use Rattle.tokens.proofs.Places.{here, inside, not_at, none_of, nor}
-use Rattle.tokens.proofs.Answers.{Failed, not-failed}
+use Rattle.tokens.proofs.Answers.{Failed, not_failed}
 use Rattle.tokens.proofs.Following.{got_stands}
 use Rattle.tokens.proofs.Chains.{Going}
 
@@ -27,7 +27,7 @@ module _ {k : ℕ} {text : Bytes} {at : ℕ} {before : Bytes} {n : ℕ} where
   -- the atom is not read
   pub atom_not_read : {p : Parsed} {after : Bytes} → Failed p → Follows atoms k text at before n p after
       → Follows items k text at before n p after
-  atom_not_read f (follows {to = to} {m = m} rd st) = absurd (not-failed to m f)
+  atom_not_read f (follows {to = to} {m = m} rd st) = absurd (not_failed to m f)
   atom_not_read f (stops st rd w) = stops st (item_stops rd) w
 
   module _ {next m : ℕ} {mid : Bytes} (going : Going items StarsRead k text at before n next m mid) where

@@ -3,7 +3,6 @@
 use Rattle.std.specs.Prelude.{ℕ, ◌+◌, ◌-◌, ◌*◌, ◌≤◌, ◌<◌, ◌≡◌, length, get_or, take, drop}
 use mathlib.Core.List.{[], ◌∷◌, ◌++◌, Memᴰ}
 use Rattle.reply.specs.Bytes.{Bytes}
-use Rattle.query.specs.Syntax.{Path, Filter}
 use Rattle.query.specs.Table.{Entries, entry_bytes}
 use Rattle.tables.specs.Laid.{fields}
 use Rattle.text.specs.Written.{path_entries, filter_entries}
