@@ -2,7 +2,7 @@
 use Prim.Native.Nat.{ℕ, ◌+◌, ◌≤◌, ◌<◌}
 use native.Mathlib.Omega.{arith}
 use native.Mathlib.Numerals.{add-one}
-use mathlib.Core.Path.{◌≡◌, sym, ◌∙◌}
+use mathlib.Core.Path.{◌≡◌, refl, sym, ◌∙◌}
 use mathlib.Core.List.{[], ◌∷◌}
 use mathlib.Core.Logic.{inl, inr}
 use lib.ListN.{length, get_or, drop}
@@ -70,6 +70,12 @@ module _ (b : Bracket) (text : Bytes) (at : ℕ) (opens : get_or text at 0 ≡ o
     bracket_follows o (stops no_such rd w) c (closed_by e) = absurd (no_stop no_such)
     bracket_follows o (stops no_such rd w) c (open_at e) = absurd (no_stop no_such)
     bracket_follows o (stops st rd w) c (passed_by again) = stops st (here (inside_stops opens o (rw (add-one k) at rd))) w
+
+-- any other bracket than a round one is square or curly
+pub not_round : (b : Bracket) → (b ≡ Round → ⊥) → OneOf (0 ∷ 2 ∷ []) (tag_of the_bracket.the_type b)
+not_round Square h = inl refl
+not_round Round h = absurd (h refl)
+not_round Curly h = inr refl
 
 module _ {k : ℕ} {text : Bytes} {at : ℕ} {before : Bytes} {n : ℕ} {p : Parsed} {after : Bytes} where
   -- a path stands in a round bracket

@@ -7,7 +7,7 @@ use derivation::{Bracket, Chain};
 use tables::{AND, CHILD, EITHER, NEXT, OR, PARENT, PREVIOUS, SELF, THEN};
 
 // A path is a chain of sequences, which are chains of items; a filter is a chain of conjunctions, which are chains of terms.
-#[derive(Drop)]
+#[derive(Clone, Copy)]
 pub enum Sort {
     Path,
     Filter,
