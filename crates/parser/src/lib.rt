@@ -17,7 +17,7 @@ use tokens::{
 };
 
 // "path: sequences joined by `|`"
-#[cycle(atom_bracketed_chained_filter_item_link_path_plain_term)]
+#[cycle(read)]
 pub fn path(text: &[u8], at: usize, depth: usize, table: &mut [u8], count: usize) -> Parsed
     requires { RoomAhead text.now at table.old count }
     ensures { Follows paths depth text.now at table.old count result table.new }
@@ -26,7 +26,7 @@ pub fn path(text: &[u8], at: usize, depth: usize, table: &mut [u8], count: usize
 }
 
 // "filter: conjunctions joined by `+`"
-#[cycle(atom_bracketed_chained_filter_item_link_path_plain_term)]
+#[cycle(read)]
 fn filter(text: &[u8], at: usize, depth: usize, table: &mut [u8], count: usize) -> Parsed
     requires { RoomAhead text.now at table.old count }
     ensures { Follows filters depth text.now at table.old count result table.new }
@@ -36,7 +36,7 @@ fn filter(text: &[u8], at: usize, depth: usize, table: &mut [u8], count: usize) 
 
 // The links of a path or of a filter. Two bytes join them, and the one of the inner chain binds closer; both group to the left. What is
 // read of the inner chain begins with the entry `begun`, and the next link with the entry `left`.
-#[cycle(atom_bracketed_chained_filter_item_link_path_plain_term)]
+#[cycle(read)]
 fn chained(text: &[u8], at: usize, depth: usize, table: &mut [u8], count: usize, of: Sort) -> Parsed
     requires { RoomAhead text.now at table.old count }
     ensures { Follows (chains (outer_chain of)) depth text.now at table.old count result table.new }
@@ -72,7 +72,7 @@ fn chained(text: &[u8], at: usize, depth: usize, table: &mut [u8], count: usize,
 }
 
 // One link of the inner chain: an item of a path, a term of a filter.
-#[cycle(atom_bracketed_chained_filter_item_link_path_plain_term)]
+#[cycle(read)]
 fn link(text: &[u8], at: usize, depth: usize, table: &mut [u8], count: usize, sort: Sort) -> Parsed
     requires { RoomAhead text.now at table.old count }
     ensures { Follows (links (inner_chain sort)) depth text.now at table.old count result table.new }
@@ -84,7 +84,7 @@ fn link(text: &[u8], at: usize, depth: usize, table: &mut [u8], count: usize, so
 }
 
 // "Item: an atom and any number of `*`"
-#[cycle(atom_bracketed_chained_filter_item_link_path_plain_term)]
+#[cycle(read)]
 fn item(text: &[u8], at: usize, depth: usize, table: &mut [u8], count: usize) -> Parsed
     requires { RoomAhead text.now at table.old count }
     ensures { Follows items depth text.now at table.old count result table.new }
@@ -109,7 +109,7 @@ fn item(text: &[u8], at: usize, depth: usize, table: &mut [u8], count: usize) ->
 }
 
 // "atom: `.` self, `v` child, `^` parent, `>` next, `<` previous, `[` filter `]`, `(` path `)`"
-#[cycle(atom_bracketed_chained_filter_item_link_path_plain_term)]
+#[cycle(read)]
 fn atom(text: &[u8], at: usize, depth: usize, table: &mut [u8], count: usize) -> Parsed
     requires { RoomAhead text.now at table.old count }
     ensures { Follows atoms depth text.now at table.old count result table.new }
@@ -130,7 +130,7 @@ fn atom(text: &[u8], at: usize, depth: usize, table: &mut [u8], count: usize) ->
 }
 
 // What stands in a bracket that opens at `at`, and the byte that closes it: through here paths and filters call each other.
-#[cycle(atom_bracketed_chained_filter_item_link_path_plain_term)]
+#[cycle(read)]
 fn bracketed(
     text: &[u8],
     at: usize,
@@ -153,7 +153,7 @@ fn bracketed(
 }
 
 // "Term: `!` term, `t`, `f`, `#` and a label, `{` filter `}`, or a path". The `!` in front are passed, and their entries written last.
-#[cycle(atom_bracketed_chained_filter_item_link_path_plain_term)]
+#[cycle(read)]
 fn term(text: &[u8], at: usize, depth: usize, table: &mut [u8], count: usize) -> Parsed
     requires { RoomAhead text.now at table.old count }
     ensures { Follows terms depth text.now at table.old count result table.new }
@@ -168,7 +168,7 @@ fn term(text: &[u8], at: usize, depth: usize, table: &mut [u8], count: usize) ->
 }
 
 // A term that begins with no `!`.
-#[cycle(atom_bracketed_chained_filter_item_link_path_plain_term)]
+#[cycle(read)]
 fn plain(text: &[u8], at: usize, depth: usize, table: &mut [u8], count: usize) -> Parsed
     requires { RoomAhead text.now at table.old count × (get_or text.now at 0 ≡ 33 → ⊥) }
     ensures { Follows terms depth text.now at table.old count result table.new }
