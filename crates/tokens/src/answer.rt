@@ -6,7 +6,7 @@ use crate::label::byte_at;
 
 // What reading comes to: the next place and the number of entries in the table; or the place of a byte that the grammar does not take, or
 // of a bracket that is one too many.
-#[derive(Drop)]
+#[derive(Clone, Copy)]
 pub enum Parsed {
     Got { at: usize, count: usize },
     Broken(usize),
