@@ -19,7 +19,7 @@ use Rattle.tokens.specs.declared.answer.Parsed.{Parsed}
 use Rattle.tokens.specs.declared.answer.Parsed.TheVariants.{Got, Broken}
 use Rattle.tokens.specs.Reading.{place_of, StopsAt, broken_at, deep_at, Follows, follows, stops, paths}
 use Rattle.tokens.proofs.Places.{begins}
-use Rattle.tokens.proofs.Answers.{Failed, not-failed}
+use Rattle.tokens.proofs.Answers.{Failed, not_failed}
 use Rattle.tokens.proofs.Following.{got_stands}
 use Rattle.reader.specs.Reader.{Parses, parses, breaks_off, too_many_open}
 
@@ -52,7 +52,7 @@ module _ {text : Bytes} where
 
   -- reading failed
   pub stopped_parses : {p : Parsed} {before after : Bytes} → Failed p → Follows paths 0 text 0 before 0 p after → Parses text p after
-  stopped_parses f (follows {to = to} {m = m} rd st) = absurd (not-failed to m f)
+  stopped_parses f (follows {to = to} {m = m} rd st) = absurd (not_failed to m f)
   stopped_parses f (stops st rd w) = stops_parses st rd w
 
   -- a path is read, and more text stands behind it

@@ -49,7 +49,7 @@ fn write_out(table: &[u8], room: &mut [u8]) -> Reply
     let Reply::Count(count) = checked else {
         return refuse(Reason::TableTooLarge, 0);
     };
-    bytes::copy(table, room);
+    room[..table.len()].copy_from_slice(table);
     Reply::Count(count)
 }
 
