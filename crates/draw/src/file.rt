@@ -56,11 +56,17 @@ fn read_all<R: Read>(source: &mut R, buffer: &mut [u8]) -> Loaded
     }
 }
 
-// The file of a name.
-pub fn load<R: Files>(rt: &R, path: &str, buffer: &mut [u8]) -> Loaded
+// The file of a name. A name that is no text opens no file.
+pub fn load<R: Files>(rt: &R, path: &[u8], buffer: &mut [u8]) -> Loaded
     ensures { IsPrefixLen result.size buffer.new }
 {
-    match File::open(rt, path) {
+    let Ok(name) = str::from_utf8(path) else {
+        return Loaded {
+            size: 0,
+            readable: false,
+        };
+    };
+    match File::open(rt, name) {
         Ok(mut file) => read_all(&mut file, buffer),
         Err(_) => Loaded {
             size: 0,

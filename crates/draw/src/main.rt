@@ -16,9 +16,9 @@ fn main(rt: HostRuntime) {
     let mut roll = [0u8; 4 * NODES + 4];
     let mut view = [0u8; 6 * RECORDS + 6];
     let mut filters = [0u8; 6 * FILTER_ENTRIES + 6];
-    let roll_file = load(&rt, "roll.rec", &mut roll);
-    let view_file = load(&rt, "view.rec", &mut view);
-    let filter_file = load(&rt, "filters.rec", &mut filters);
+    let roll_file = load(&rt, b"roll.rec", &mut roll);
+    let view_file = load(&rt, b"view.rec", &mut view);
+    let filter_file = load(&rt, b"filters.rec", &mut filters);
     if roll_file.readable & view_file.readable & filter_file.readable {
         let nodes = roll_file.size;
         let records = view_file.size;
