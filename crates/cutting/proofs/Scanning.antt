@@ -105,13 +105,13 @@ module _ {t : Tree} {Seen : ℕ → Type 0} where
     nearest_place : 0 < i → (p : ℕ) × Nearest t Seen i p × Position Seen p q
     nearest_place z =
         let before : parent_at t i < i = parent_smaller t o i z node in
-        elim place [
+        elim place as (λ q _. (p : ℕ) × Nearest t Seen i p × Position Seen p q) [
           | root e ↦ absurd (omega arith)
           | later l ↦ place_nearest (record { later = z; node = node; parent = refl }) (so_far.placed (parent_at t i) before)
         ]
 
     at_root : i ≡ 0 → q ≡ none
-    at_root e = elim place [ root z ↦ refl | later l ↦ absurd (omega arith) ]
+    at_root e = elim place as (λ q _. q ≡ none) [ root z ↦ refl | later l ↦ absurd (omega arith) ]
 
     at_later : (p r : ℕ) → Nearest t Seen i p → Position Seen p r → q ≡ r
     at_later p r near y =
