@@ -30,6 +30,6 @@ pub fn print_query(query: &[u8], room: &mut [u8]) -> Reply
     if size > TEXT_BYTES {
         return refuse(Reason::TextTooLong, 0);
     }
-    bytes::copy(&text[..size], room);
+    room[..size].copy_from_slice(&text[..size]);
     Reply::Count(size)
 }
