@@ -1,11 +1,10 @@
 -- `write_rewritten`: the filter table is copied to the front, and what is written behind it makes the rewritten table.
 use native.Mathlib.Omega.{arith}
-use mathlib.Core.Path.{◌≡◌, refl, ap}
+use mathlib.Core.Path.{refl}
 use mathlib.Core.List.{◌++◌}
-use lib.ListN.{length, take, drop}
-use lib.Seq.{take-length}
+use lib.ListN.{length, drop}
 use Rattle.reply.specs.Bytes.{Bytes}
-use Rattle.rewrite.proofs.Made.{writer_given, made, made_told, short_count}
+use Rattle.rewrite.proofs.Made.{in_front, writer_given, made, made_told, short_count}
 use Rattle.rewrite.proofs.write_rewritten.Goals as goal
 use Rattle.rewrite.proofs.write_rewritten.Goals.{After-copy_from_slice}
 
@@ -14,16 +13,12 @@ use Rattle.rewrite.proofs.write_rewritten.Goals.{After-copy_from_slice}
 abbrev front : (c : After-copy_from_slice) → Bytes
 front c = c.copy_from_slice.new.self ++ drop (length c.args.filters.now) c.args.room.now
 
-copied : (c : After-copy_from_slice) → let f = c.args.filters.now in front c ≡ take (length f) f ++ drop (length f) c.args.room.now
-copied c =
-    rw take-length (ap (λ (part : Bytes). part ++ drop (length c.args.filters.now) c.args.room.now) c.copy_from_slice.ensures.after)
-
 pub write_behind-behind-requires : goal.write_behind-behind-requires
 write_behind-behind-requires c =
     let at_copy = (goal.at.write_behind-behind-requires c).After-copy_from_slice in
     let (annotated, asked) = c.requires.annotated in
     let (room, (labels, (right, numbers))) =
-    writer_given annotated asked c.args.room.now (front at_copy) (length c.args.filters.now) c.requires.in_bounds refl (copied at_copy)
+    writer_given annotated asked c.args.room.now (front at_copy) (length c.args.filters.now) c.requires.in_bounds refl (in_front _ c.copy_from_slice.ensures.after)
     c.count-first.ensures in
     record { room = room; label_bytes = labels; entries_right = right; numbers = numbers }
 
@@ -42,7 +37,7 @@ returns c =
     let size = length c.args.filters.now in
     record {
       rewritten =
-          made annotated asked room (front at_copy) size c.requires.in_bounds refl (copied at_copy) c.count-first.ensures many laid_there;
+          made annotated asked room (front at_copy) size c.requires.in_bounds refl (in_front _ c.copy_from_slice.ensures.after) c.count-first.ensures many laid_there;
       visible_told =
-          made_told annotated asked room (front at_copy) size c.requires.in_bounds refl (copied at_copy) c.count-first.ensures many laid_there;
+          made_told annotated asked room (front at_copy) size c.requires.in_bounds refl (in_front _ c.copy_from_slice.ensures.after) c.count-first.ensures many laid_there;
     }
