@@ -2,7 +2,7 @@
 -- asked so too. Assumes nothing.
 use Prim.Native.Nat.{ℕ, ◌-◌, ◌≤◌, ◌<◌}
 use native.Mathlib.Omega.{arith}
-use mathlib.Core.Path.{◌≡◌, refl, sym, ap, subst}
+use mathlib.Core.Path.{◌≡◌, refl, sym, subst}
 use mathlib.Core.Logic.{◌⊎◌, inr, ⊎_elim}
 use mathlib.Core.List.{List}
 use lib.ListN.{length}
@@ -10,7 +10,6 @@ use Rattle.reply.specs.Bytes.{Bytes}
 use Rattle.tree.specs.Tree.{Tree}
 use Rattle.roll.specs.Roll.{nodes, Roll}
 use Rattle.query.specs.Kind.{path}
-use Rattle.query.specs.Syntax.{Path}
 use Rattle.query.specs.Meaning.{reach}
 use Rattle.query.specs.Table.{entries, path_at, query_of, HasSort}
 use Rattle.query.specs.Fault.{Limits, curators, answered, last, EntryFits, Query}

@@ -1,8 +1,8 @@
 -- A set's bytes, written in front of a room, are its bitmap there, and its ones are counted. And what a room with a bitmap in front shows.
 -- Assumes nothing.
-use Prim.Native.Nat.{ℕ, ◌/◌, ◌≤◌, ◌<◌, ◌^◌}
+use Prim.Native.Nat.{ℕ, ◌/◌, ◌≤◌, ◌<◌}
 use native.Mathlib.Omega.{arith}
-use mathlib.Core.Path.{◌≡◌, refl, sym, ap, ◌∙◌, subst}
+use mathlib.Core.Path.{◌≡◌, refl, sym, ap, ◌∙◌}
 use mathlib.Core.Logic.Iff
 use mathlib.Core.Logic.{◌↔◌}
 use mathlib.Core.List.{List, ◌++◌}
@@ -17,6 +17,11 @@ use Rattle.sets.specs.Sets.{In, Holds}
 use Rattle.sets.proofs.Size.{bytes_ones}
 use Rattle.answer.specs.Bitmap.{bit, Bitmap, SetGiven}
 use Rattle.answer.specs.Given.{BitmapGiven}
+
+-- 512 bytes that are copied to the front of a room stand there, with the room behind them
+pub in_front : (before : Bytes) {map part : List ℕ} → length map ≡ 512 → part ≡ map
+    → part ++ drop 512 before ≡ take (length map) map ++ drop (length map) before
+in_front before size same = rw (take-length, size) (ap (λ (part : List ℕ). part ++ drop 512 before) same)
 
 module _ (set map : List ℕ) (words : length set ≡ 64) (bytes : length map ≡ 512)
     (fits : (j : ℕ) → Fits w64 (get_or set j 0)) (low : (j : ℕ) → Fits w8 (get_or map j 0))

@@ -1,11 +1,11 @@
 -- A set of nodes has one bitmap, so two outcomes that fit call 3 are equal. Assumes nothing.
-use Prim.Native.Nat.{ℕ, zero, suc, ◌+◌, ◌*◌, ◌/◌, ◌%◌, ◌^◌, ◌≤◌, ◌<◌}
+use Prim.Native.Nat.{ℕ, zero, suc, ◌+◌, ◌*◌, ◌/◌, ◌%◌, ◌^◌, ◌<◌}
 use native.Mathlib.Omega.{arith}
 use native.Mathlib.Nat.{div-add-mod', mod-lt, div-one, div-div-eq-div-mul, mul_comm, pow-suc}
 use lib.Arith.{lt-one}
 use lib.Dec.{lit<}
 use mathlib.Core.Path.{◌≡◌, refl, sym, ap, ap₂, ◌∙◌}
-use lib.ListN.{length, get_or}
+use lib.ListN.{get_or}
 use lib.Seq.{ext_get_or}
 use Rattle.reply.specs.Reply.{Said}
 use Rattle.reply.specs.Bytes.{Bytes}

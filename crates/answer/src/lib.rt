@@ -26,7 +26,7 @@ pub fn give(set: [u64; 64], room: &mut [u8]) -> Reply
     ensures { BitmapGiven (In set) room.old (said result) room.new }
 {
     let map = bytes(set);
-    bytes::copy(&map, room);
+    room[..map.len()].copy_from_slice(&map);
     Reply::Count(count(set))
 }
 
