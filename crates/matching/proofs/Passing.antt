@@ -73,6 +73,11 @@ module _ {rules : Bytes} {counts : List ℕ} {e : ℕ} {w : Word} {set : List �
       → Means (entries rules) e read.label read.left read.right read.kind
   asked_means f = means (stands (entries rules) e asked.entry (asked.right e asked.entry)) f
 
+  -- where it is of the kind that was matched
+  pub of_kind : {read : Entry} {kind : ℕ} → Fields (entry_at (entries rules) e) read → read.kind ≡ kind
+      → Means (entries rules) e read.label read.left read.right kind
+  of_kind {read} f is = subst (Means (entries rules) e read.label read.left read.right) is (asked_means f)
+
   -- another entry is asked, of other places
   pub ask_of : {x : ℕ} {places : List ℕ} → x < length (entries rules) → Inside (length w + 1) places → Asked rules counts x w places
   ask_of l inside = record { right = asked.right; counted = asked.counted; entry = l; short = asked.short; places = inside }

@@ -31,7 +31,7 @@ fn words_of(word: &[u8]) -> usize
 
 // Where words of entry e end that begin at a place of the set, written over the set. An entry in a star is asked more than once: where it
 // led from the places that it was asked of before need not be found again, and `kept` has what its stars have reached so far.
-#[cycle(go_on_go_on_alone_pass_pass_either)]
+#[cycle(asking)]
 fn pass(
     rules: &[u8],
     counts: &[usize],
@@ -72,7 +72,7 @@ fn pass(
 
 // The same for either of two entries. One that is named twice is asked once: so entries upon one another are not asked twice as often at
 // each height.
-#[cycle(go_on_go_on_alone_pass_pass_either)]
+#[cycle(asking)]
 fn pass_either(
     rules: &[u8],
     counts: &[usize],
@@ -97,7 +97,7 @@ fn pass_either(
 
 // The same for zero or more words of entry e, one behind the other: each round goes on from what is new in the last one, until nothing is.
 // What was reached is kept in the first set, and what was reached before is not gone on from again.
-#[cycle(go_on_go_on_alone_pass_pass_either)]
+#[cycle(asking)]
 fn go_on(
     rules: &[u8],
     counts: &[usize],
@@ -123,7 +123,7 @@ fn go_on(
 }
 
 // The same where no set is left to keep for the star.
-#[cycle(go_on_go_on_alone_pass_pass_either)]
+#[cycle(asking)]
 fn go_on_alone(rules: &[u8], counts: &[usize], e: usize, word: &[u8], set: &mut [u64; 64])
     requires { Asked rules.now counts.now e word.now set.old }
     ensures { Image (Spans (star (expression_at (entries rules.now) e)) word.now) set.old set.new }
@@ -146,7 +146,7 @@ fn clear(kept: &mut [[u64; 64]])
 
 // The same for an entry that stands in no star. It is asked once, so that nothing has to be kept of it, and the sets serve one of its stars
 // after the other, each with those inside it.
-#[cycle(either_once_pass_once)]
+#[cycle(asking_once)]
 fn pass_once(
     rules: &[u8],
     counts: &[usize],
@@ -180,7 +180,7 @@ fn pass_once(
 }
 
 // The same for either of two such entries.
-#[cycle(either_once_pass_once)]
+#[cycle(asking_once)]
 fn either_once(
     rules: &[u8],
     counts: &[usize],

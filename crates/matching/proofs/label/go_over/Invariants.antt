@@ -1,0 +1,21 @@
+-- `go_over`. The loop's invariant: the words passed hold what is behind the places with the label, and the digit over is the next one.
+-- The measure is the number of words that are left.
+use Prim.Native.Nat.{ℕ, ◌-◌, ◌≤◌}
+use mathlib.Core.List.{List}
+use Rattle.sets.specs.Sets.{In}
+use Rattle.sets.proofs.Words.{Made}
+use Rattle.rules.specs.Language.{Word}
+use Rattle.matching.specs.Spans.{LabelAt}
+use Rattle.matching.proofs.Moving.{Behind, Over}
+use Rattle.matching.proofs.label.go_over.Given as goal
+
+-- a place of the set where the label stands
+abbrev pub Labelled : Word → ℕ → List ℕ → ℕ → Type 0
+Labelled word label set p = In set p × LabelAt word label p
+
+abbrev pub invariant-loop-w : goal.invariant-loop-w
+invariant-loop-w l =
+    (l.w ≤ l.used) × Made 64 (Behind (Labelled l.word l.label l.initial.words)) l.initial.words l.words l.w × Over (Labelled l.word l.label l.initial.words) l.w l.last
+
+abbrev pub decreases-loop-w : goal.decreases-loop-w
+decreases-loop-w l = l.used - l.w
