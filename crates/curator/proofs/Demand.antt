@@ -14,7 +14,7 @@ use Rattle.roll.proofs.Deciding.{roll_most}
 use Rattle.query.specs.Syntax.{Path}
 use Rattle.query.specs.Meaning.{reach}
 use Rattle.query.specs.Table.{entries, query_of}
-use Rattle.query.specs.Fault.{curators, answered, Query}
+use Rattle.query.specs.Fault.{curators, answered}
 use Rattle.query.proofs.Unique.{query_wrong, query_one}
 use Rattle.answer.specs.Bitmap.{bit, SetGiven}
 use Rattle.answer.specs.Promise.{Answered}
@@ -26,7 +26,7 @@ use Rattle.view.specs.Promise.{Seen}
 use Rattle.view.proofs.Positions.{position_exists}
 use Rattle.view.proofs.Accepted.{dec_seen, seen_node, view_exists, same_table}
 use Rattle.rewrite.specs.Promise.{Faithful, RewriteGiven}
-use Rattle.rewrite.proofs.Given.{table-given}
+use Rattle.rewrite.proofs.Given.{table_given}
 use Rattle.curator.specs.Promise.{ViewAnswered, CuratorAnswered}
 use Rattle.curator.specs.Demand.{Lent, Shows, Alike, Demand3}
 use Rattle.curator.proofs.Alike.{worked, given_alike, alike}
@@ -38,7 +38,7 @@ given_faithful : (annotation filters query : Bytes) {n : ℕ} {table : Bytes}
     → Lent 6144 (RewriteGiven annotation filters query) (count n) table
     → Faithful annotation filters (query_of (entries (take (6 * n) table))) (query_of (entries query))
 given_faithful annotation filters query {n} {table} rewrites =
-    (table-given annotation filters query rewrites.before n table rewrites.fits).1
+    (table_given annotation filters query rewrites.before n table rewrites.fits).1
 
 -- from a visible node such a query reaches visible nodes only
 visible_only : (roll annotation filters : Bytes) (p q : Path) (i j : ℕ) → Faithful annotation filters p q → Roll roll
