@@ -31,7 +31,7 @@ module _ (table room text room' table' : Bytes) (c n : ℕ) (printed : TablePrin
   pub again_answers : (roll before : Bytes) {s u : Said} {x y : Bytes} → Answered roll table before s x
       → Answered roll (take (6 * n) table') before u y → (s ≡ u) × (x ≡ y)
   again_answers roll before a b =
-      elim (round_trip.same-answers table room text room' table' c (count n) printed read large) [
+      elim (round_trip.same_answers table room text room' table' c (count n) printed read large) [
         | same_query few query same ↦ same_path_answers roll table _ before (query_answered given) (query_answered query) same a b
       ]
 
@@ -40,6 +40,6 @@ module _ (table room text room' table' : Bytes) (c n : ℕ) (printed : TablePrin
       → CuratorAnswered roll annotation filters table before s x
       → CuratorAnswered roll annotation filters (take (6 * n) table') before u y → (s ≡ u) × (x ≡ y)
   again_curators roll annotation filters before a b =
-      elim (round_trip.same-answers table room text room' table' c (count n) printed read large) [
+      elim (round_trip.same_answers table room text room' table' c (count n) printed read large) [
         | same_query few query same ↦ same_path_curator annotation filters table _ roll before given query same a b
       ]

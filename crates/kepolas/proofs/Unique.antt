@@ -1,4 +1,4 @@
--- What is told is told in one way: two pairs of numbers that fit are equal. For call 7 that is `run-place-one` of roll. Assumes nothing.
+-- What is told is told in one way: two pairs of numbers that fit are equal. For call 7 that is `run_place_one` of roll. Assumes nothing.
 use Prim.Native.Nat.{ℕ, zero, suc}
 use native.Mathlib.Omega.{arith}
 use mathlib.Core.Path.{◌≡◌, refl}
