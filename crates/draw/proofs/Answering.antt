@@ -1,18 +1,15 @@
 -- How a text comes to its line: by the reader's refusal, or by the answer to its table. Assumes nothing.
 use Prim.Native.Nat.{ℕ, ◌*◌, ◌≤◌}
 use native.Mathlib.Omega.{arith}
-use mathlib.Core.Path.{◌≡◌, refl, sym, ap, ◌∙◌, subst}
-use mathlib.Core.List.{[], ◌∷◌, ◌++◌}
+use mathlib.Core.Path.{◌≡◌, sym, ap, ◌∙◌, subst}
 use lib.ListN.{length, take, drop, replicate, length-append}
 use lib.Seq.{take_at}
-use denote.Enum.Declared.{tag_of}
-use types.Run.{OneOf}
+use Rattle.reply.specs.declared.Refusal.{Refusal}
 use Rattle.reply.specs.declared.Reply.{Reply}
 use Rattle.reply.specs.declared.Reply.TheVariants.{Count, Refused}
 use Rattle.reply.specs.Reply.{Said, count, refused, said}
 use Rattle.reply.specs.Bytes.{Bytes}
 use Rattle.reply.specs.Outcome.{done, short, turned_away}
-use Rattle.reply.specs.contracts.Reply as the_reply
 use Rattle.query.specs.Syntax.{Path}
 use Rattle.query.specs.Table.{entry_bytes}
 use Rattle.text.specs.Written.{table_of}
@@ -63,11 +60,11 @@ module _ {text : Bytes} where
 
   module _ {roll annotation filters map out last : Bytes} {c : ℕ} where
     -- its line is that of the refusal
-    pub refused_line : (r : Reply) (after : Bytes) → OneOf (1 ∷ []) (tag_of the_reply.the_type r) → TextRead text room (said r) after
+    pub refused_line : (r : Reply) {refusal : Refusal} (after : Bytes) → r ≡ Refused refusal → TextRead text room (said r) after
         → LineGiven (said r) map out c last → LineWritten (LineFor roll annotation filters text) out c last
     unfolding line_of
-    refused_line (Count n) after no_such x given = absurd (omega arith)
-    refused_line (Refused x) after u read given =
+    refused_line (Count n) after no_such x given = cc
+    refused_line (Refused x) after e read given =
         record { line = _; right = text_refused (text_fault after read); count = given.count; written = given.written }
 
     -- the line of any other text is that of the answer to its table

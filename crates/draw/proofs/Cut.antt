@@ -1,8 +1,8 @@
 -- Why 1,025 bytes of a line that has not ended are enough: with whatever follows, they are answered as the whole line is. Assumes nothing.
-use Prim.Native.Nat.{◌+◌, ◌≤◌, ◌<◌}
+use Prim.Native.Nat.{◌≤◌, ◌<◌}
 use native.Mathlib.Decide.{dec_le}
 use native.Mathlib.Omega.{arith}
-use mathlib.Core.Path.{sym, subst}
+use mathlib.Core.Path.{subst}
 use mathlib.Core.List.{◌++◌}
 use lib.ListN.{length, take, length-append}
 use lib.Seq.{length-take-le, take_all}

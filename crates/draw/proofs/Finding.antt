@@ -1,9 +1,9 @@
 -- The first place of a byte: before it there is none, and it stands there if it is in the list at all.
 use Rattle.std.proofs.Common.{ℕ, zero, suc, ◌≤◌, ◌<◌, ◌-◌, ◌≡◌, ◌+◌, refl, sym, ap, ◌∙◌, subst, Bool, true, false, List, [], ◌∷◌, length, get_or, take, drop, arith}
-use Rattle.std.specs.Prelude.{◌==◌, slice_index}
+use Rattle.std.specs.Prelude.{◌==◌}
 use Rattle.std.proofs.Math.Seq.{slice}
 use Rattle.std.proofs.lemmas.List.{drop-take}
-use Rattle.memchr.specs.Find.{Passes, Nowhere, NoneBefore, is_byte}
+use Rattle.memchr.specs.Find.{Passes, Nowhere, is_byte}
 use Rattle.std.proofs.Math.Seq.{take-suc, take_all}
 use mathlib.Core.Logic.{⊎_elim}
 use mathlib.Core.List.Memᴰ

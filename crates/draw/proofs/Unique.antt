@@ -4,12 +4,11 @@ use native.Mathlib.Omega.{arith}
 use mathlib.Core.Path.{◌≡◌, refl, sym, ap, ap₂, ◌∙◌, subst}
 use mathlib.Core.List.{[], ◌∷◌, ◌++◌, append_assoc, append-nil, Memᴰ}
 use lib.ListN.{length, length-append, replicate}
-use Rattle.reply.specs.Reply.{Said, refused}
+use Rattle.reply.specs.Reply.{refused}
 use Rattle.reply.specs.Bytes.{Bytes}
 use Rattle.query.specs.Syntax.{Path}
 use Rattle.query.specs.Table.{entry_bytes}
 use Rattle.text.specs.Written.{table_of}
-use Rattle.text.specs.Promise.{TextOf}
 use Rattle.derivation.proofs.Place.{path_unique}
 use Rattle.derivation.proofs.Unique.{text_one, text_wrong}
 use Rattle.curator.specs.Promise.{CuratorAnswered}

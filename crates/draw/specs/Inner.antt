@@ -1,7 +1,7 @@
 -- What the parts of the program answer. Only inner contracts cite it.
 use Rattle.std.specs.Prelude.{ℕ, ◌+◌, ◌-◌, ◌≤◌, ◌<◌, ◌≡◌, ◌⊎◌, length, take, drop}
 use Prim.Native.Char.{code}
-use mathlib.Core.List.{◌++◌, Memᴰ}
+use mathlib.Core.List.{Memᴰ}
 use Rattle.reply.specs.Bytes.{Bytes, Written}
 use Rattle.lines.specs.Line.{longest}
 use Rattle.draw.specs.declared.file.More.{More}

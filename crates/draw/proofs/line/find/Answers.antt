@@ -1,6 +1,5 @@
 -- `find`: what `memchr` gives is the first place, counted from where it began.
-use Rattle.std.proofs.Common.{ℕ, ◌≡◌, ◌<◌, ◌+◌, ◌-◌, List, ap, ◌∙◌, length, take, drop, arith, length-take, length-drop}
-use Rattle.std.proofs.Math.Seq.{slice, length-slice}
+use Rattle.std.proofs.Common.{ℕ, ◌+◌, ◌-◌, ap, ◌∙◌, take, drop, arith, length-take, length-drop}
 use Rattle.draw.specs.Place.{index_of}
 use Rattle.draw.proofs.Finding.{first_found, none_found, range_slice}
 use Rattle.draw.proofs.line.find.Goals as goal
