@@ -13,7 +13,7 @@ use Rattle.tables.proofs.check.check_entries.Goals as goal
 use Rattle.tables.proofs.check.check_entries.Invariants.{Standing}
 use Rattle.tables.proofs.check.check_entries.Goals.{Else-not-entry_right}
 
--- entry i has the.before.before test
+-- entry i has passed the test
 ordered : (c : Else-not-entry_right)
     → EntryRight (entries c.args.table.now) c.loop-i.i
 ordered c = test_passed c.entry_right.result c.entry_right.ensures c.if-not-entry_right.false
