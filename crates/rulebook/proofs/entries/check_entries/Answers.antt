@@ -10,7 +10,7 @@ use Rattle.rulebook.proofs.Walk.{all_fit, misfit, walk_starts, walk_on}
 use Rattle.rulebook.proofs.entries.check_entries.Goals as goal
 use Rattle.rulebook.proofs.entries.check_entries.Goals.{Else-not-entry_right}
 
--- entry i has the test
+-- entry i has passed the test
 ordered : (c : Else-not-entry_right)
     → EntryRight (entries c.args.rules.now) c.loop-i.i
 ordered c = test_passed c.entry_right.result c.entry_right.ensures c.if-not-entry_right.false
