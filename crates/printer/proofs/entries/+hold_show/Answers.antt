@@ -48,9 +48,9 @@ show-hold-first-requires t c =
     let fields : Fields entry c.entry_at-entry.result = c.entry_at-entry.ensures in
     let ranked : c.rank-own.result ≡ get_or ranks entry.kind 0 = rw (← fields.kind) c.rank-own.ensures in
     let loose : get_or ranks entry.kind 0 < 2 = rw (← ranked) c.if-own-lt2.true in
-    let same = fields.left in
+    let first = fields.left in
     let l = (joined_shown c.requires loose).0 in
-    (omega arith, ask c.requires same l)
+    (omega arith, ask c.requires first l)
 
 pub show-hold-requires : goal.show-hold-requires
 show-hold-requires t c =
@@ -58,9 +58,9 @@ show-hold-requires t c =
     let fields : Fields entry c.entry_at-entry.result = c.entry_at-entry.ensures in
     let ranked : c.rank-own.result ≡ get_or ranks entry.kind 0 = rw (← fields.kind) c.rank-own.ensures in
     let loose : get_or ranks entry.kind 0 < 2 = rw (← ranked) c.if-own-lt2.true in
-    let same = fields.right in
-    let l = (joined_shown c.requires loose).1 in
-    (omega arith, ask c.requires same l)
+    let second = fields.right in
+    let m = (joined_shown c.requires loose).1 in
+    (omega arith, ask c.requires second m)
 
 pub show-returns-then-own-lt2 : goal.show-returns-then-own-lt2
 show-returns-then-own-lt2 t c =
