@@ -1,7 +1,7 @@
 -- The calls seen from the view: where call 4 counts, the roll shows the view that it has written; call 6 is a call on the view shown, and
 -- so is call 3 on the view's table. Assumes nothing.
 use Prim.Native.Nat.{ℕ, ◌*◌}
-use mathlib.Core.Path.{◌≡◌}
+use mathlib.Core.Path.{◌≡◌, subst}
 use lib.ListN.{length, take}
 use Rattle.reply.specs.Reply.{Said, count}
 use Rattle.reply.specs.Bytes.{Bytes}
@@ -44,7 +44,9 @@ module _ {roll annotation filters : Bytes} {v : Tree} (shows : Shows roll annota
   unfolding CuratorAnswered
   on_shown answers =
       said_otherwise
-      (λ c x given. rw (seen_view_one annotation filters roll shows.accepted given.is shows.is) at given.given)
+      (λ c x given.
+      subst (λ (t : Tree). SetGiven (answer t query) before c x) (seen_view_one annotation filters roll shows.accepted given.is shows.is)
+      given.given)
       (passed (annotated_wrong annotation filters) shows.annotated (passed (roll_wrong roll) shows.accepted answers))
 
   pub on_table : Answered (node_bytes v) query before s after → AnsweredOn v answered query before s after
