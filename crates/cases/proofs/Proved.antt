@@ -19,7 +19,7 @@ use Rattle.tree.proofs.Tests.{all, all_at, every_below, every_below_lem}
 use Rattle.roll.specs.Roll.{nodes}
 use Rattle.query.specs.Syntax.{Path}
 use Rattle.query.specs.Table.{entries, height, height_at, operand_height}
-use Rattle.query.proofs.Answers.{members, members-right, answer, answer-right}
+use Rattle.query.proofs.Answers.{members, members_right, answer, answer_right}
 use Rattle.text.specs.Written.{path_entries, table_of}
 use Rattle.text.specs.Promise.{TextLength, StarBehindStar, behind, FirstMistake, Fits, TextFault, mistaken, TextOf}
 use Rattle.derivation.proofs.Rules.{Result, got, stopped, broken, deep, PathReads}
@@ -171,7 +171,7 @@ listed {t = t} asked text ks (got p []) d h =
     record { few = leb→le (length (table_of p)) 256 (passed 1); low = λ i l. leb→le (height_at (table_of p) i) 32 (low i l) } in
     let same : answer t p ≡ ks = same_numbers_lem (answer t p) ks (passed 3) in
     answers ks asked (whole_text length_right (passed 5) (judged d) fits)
-    (λ k. rw (← same) (Iff.symm (answer-right t asked.order p asked.root k)))
+    (λ k. rw (← same) (Iff.symm (answer_right t asked.order p asked.root k)))
     (eqb→eq (length ks) (ones (bitmap_of ks)) (passed 4))
 listed asked text ks (got p (c ∷ more)) d h = absurd h
 listed asked text ks (stopped s more) d h = absurd h
@@ -210,7 +210,7 @@ computes_right (annotated pairs n ks) h =
 computes_right (visible shown) h =
     λ i l.
     subst (λ (xs : List ℕ). Seen roll annotation filters i ↔ Memᴰ i xs) (same_numbers_lem (members 0 flags) shown h)
-    (Iff.symm (Iff.trans (members-right flags i) (flags_right i l)))
+    (Iff.symm (Iff.trans (members_right flags i) (flags_right i l)))
 computes_right (the_view v) h = subst Cuts (same_list_lem same_node same_node_lem computed v h) view_cut
 computes_right (curator text ks) h =
     let (r, d, k) = on_result_lem (answers_by computed text ks) (read_text 32 text) h in listed of_curator text ks r d k
