@@ -12,7 +12,7 @@ use Rattle.roll.specs.Roll.{nodes}
 use Rattle.roll.proofs.Deciding.{roll_in_order, roll_most}
 use Rattle.query.specs.Kind.{path, filter, of}
 use Rattle.query.specs.Meaning.{reach, holds}
-use Rattle.query.specs.Table.{entries, entry_at, OperandField, path_at}
+use Rattle.query.specs.Table.{filter_at, entries, entry_at, OperandField, path_at}
 use Rattle.query.proofs.Standing.{path_kind, filter_kind}
 use Rattle.query.proofs.Turn.{turn_right, free_reaches}
 use Rattle.sets.specs.Sets.{Image, Inside}
@@ -22,8 +22,8 @@ use Rattle.steps.specs.declared.axis.Axes.{Axes}
 use Rattle.evaluator.specs.Course.{facing}
 use Rattle.evaluator.specs.Evaluator.{Knowing, Asked, Still}
 use Rattle.evaluator.proofs.Filtered.{filter_first, ends_held, step_first}
-use Rattle.evaluator.proofs.Filters.{narrow_always, narrow_never, narrow_leads, narrow_not, narrow_and, narrow_or}
-use Rattle.evaluator.proofs.Images.{Stays, image_inside, image_same, image_star, image_then, narrowed_inside}
+use Rattle.evaluator.proofs.Filters.{narrow_empty, narrow_known, narrow_always, narrow_never, narrow_leads, narrow_not, narrow_and, narrow_or}
+use Rattle.evaluator.proofs.Images.{image_empty, Stays, image_inside, image_same, image_star, image_then, narrowed_inside}
 use Rattle.evaluator.proofs.Operands.{Opened, Read, read, path_stays, operand, operand_below, operand_same, operand_within, stays_at, is_self, is_axis, is_stay, is_either, is_star, is_labelled, is_leads, is_always, is_never, is_not, is_and, is_or, Parts, parts_of}
 use Rattle.evaluator.proofs.Rounds.{first_round, next_round, round_adds, last_round}
 use Rattle.evaluator.proofs.Stepping.{steps_stay, step_from, star_of_steps, then_along, along_then}
@@ -60,6 +60,9 @@ by_rounds-returns t c = last_round c.loop-walk.invariant (test_passed c.is_empty
 image_opened : (t : ℕ) (c : image-After-entry_at-entry t)
     → Opened c.args.roll.now c.args.table.now c.args.links.now c.args.walk.known c.args.held.now path c.args.walk.entry c.args.from c.entry_at-entry.result
 image_opened t c = record { given = c.requires.0; asked = c.requires.1; fields = c.entry_at-entry.ensures }
+
+pub image-returns-then-is_empty : goal.image-returns-then-is_empty
+image-returns-then-is_empty t c = image_empty (c.is_empty.ensures.0 (subst T (sym c.if-is_empty.true) tt))
 
 -- one step along an axis
 pub image-returns-in-2 : goal.image-returns-in-2
@@ -153,6 +156,15 @@ image-returns-in_default-2 t c =
 narrow_opened : (t : ℕ) (c : narrow-After-entry_at-entry t)
     → Opened c.args.roll.now c.args.table.now c.args.links.now c.args.known c.args.held.now filter c.args.e c.args.from c.entry_at-entry.result
 narrow_opened t c = record { given = c.requires.0; asked = c.requires.1; fields = c.entry_at-entry.ensures }
+
+pub narrow-returns-then-is_empty : goal.narrow-returns-then-is_empty
+narrow-returns-then-is_empty t c = narrow_empty (c.is_empty.ensures.0 (subst T (sym c.if-is_empty.true) tt))
+
+-- where the filter holds is known
+pub narrow-returns-then-e-known : goal.narrow-returns-then-e-known
+narrow-returns-then-e-known t c =
+    narrow_known (λ e. holds (nodes c.args.roll.now) (filter_at (entries c.args.table.now) e)) c.if-e-known.true c.requires.0.answer
+    c.requires.1.entry.within c.requires.1.nodes_only c.common.ensures
 
 -- label is the given one
 pub narrow-returns-in-16 : goal.narrow-returns-in-16
