@@ -1,9 +1,9 @@
 -- Query tables and filter tables: which bytes are in order, and the fault that any others have.
-use Rattle.std.specs.Prelude.{ℕ, ◌-◌, ◌*◌, ◌≤◌, ◌<◌, length}
+use Rattle.std.specs.Prelude.{ℕ, ◌-◌, ◌≤◌, ◌<◌, length}
 use Rattle.reply.specs.Bytes.{Bytes, Whole}
 use Rattle.reply.specs.Outcome.{Lowest}
 use Rattle.query.specs.Kind.{path}
-use Rattle.query.specs.Table.{Entries, entries, HasSort, EntryRight, height_at}
+use Rattle.query.specs.Table.{entries, HasSort, EntryRight, height_at}
 
 -- The limits of a table: its entries and their height.
 pub record Limits : Type 0 where

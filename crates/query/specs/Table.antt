@@ -1,11 +1,11 @@
 -- Entry tables: their bytes as entries, the sort and height of an entry, and the path or filter that it stands for.
-use Rattle.std.specs.Prelude.{ℕ, suc, ◌+◌, ◌-◌, ◌<◌, max, ◌≡◌, Bool, true, false, List, [], ◌∷◌, ◌++◌, length, get_or}
+use Rattle.std.specs.Prelude.{ℕ, suc, ◌-◌, ◌<◌, max, ◌≡◌, Bool, true, false, List, [], ◌∷◌, ◌++◌, length, get_or}
 use Rattle.std.proofs.Math.Option.{Option, none, some}
 use Rattle.reply.specs.Bytes.{Bytes, two, two_bytes}
 use Rattle.tree.specs.Tree.{Label}
 use Rattle.query.specs.Syntax as syntax
 use Rattle.query.specs.Syntax.{Path, Filter}
-use Rattle.query.specs.Kind.{Sort, path, filter, Operand, unused, of, Kind, self, child, parent, next, previous, stay, then, either, star, labelled, leads, always, never, not, and, or, Row, row_of}
+use Rattle.query.specs.Kind.{Sort, Operand, unused, of, Kind, self, child, parent, next, previous, stay, then, either, star, labelled, leads, always, never, not, and, or, Row, row_of}
 
 pub record Entry : Type 0 where
   pub kind : ℕ

@@ -1,6 +1,6 @@
 -- Why two replies that fit one promise are equal: a reply is what it says, a lowest fault is one fault, and so an outcome is one outcome.
 -- Assumes nothing.
-use Prim.Native.Nat.{ℕ, pred, ◌≤◌, ◌<◌}
+use Prim.Native.Nat.{ℕ, pred, ◌<◌}
 use native.Mathlib.Omega.{arith}
 use mathlib.Core.Path.{◌≡◌, refl, sym, ap, ap₂, ◌∙◌, subst}
 use mathlib.Core.Logic.{◌≢◌}
@@ -8,7 +8,6 @@ use mathlib.Core.List.{[], ◌∷◌, ◌++◌}
 use lib.ListN.{length, get_or, drop}
 use Rattle.reply.specs.declared.Reason.{Reason}
 use Rattle.reply.specs.declared.Reason.TheVariants.{ShortRoom, RollLength, NodeLabel, SecondByte, ParentField, AnnotationLength, FilterLength, EntryMalformed, EntryHeight, AnnotationRecord, PairOrder, QueryTable, TextLength, NotInGrammar, TooManyOpen, TableTooLarge, FileUnreadable, TextTooLong, TwoStars, RulesMalformed, ChildrenForbidden}
-use Rattle.reply.specs.declared.Refusal.{Refusal}
 use Rattle.reply.specs.declared.Reply.{Reply}
 use Rattle.reply.specs.declared.Reply.TheVariants.{Count, Refused}
 use Rattle.reply.specs.Reply.{number, Said, count, refused, said}

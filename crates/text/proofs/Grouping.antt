@@ -1,5 +1,4 @@
 -- "`|`, `/`, `+` and `&` group to the left": three of each, joined. Assumes nothing.
-use Prim.Native.Nat.{ℕ}
 use mathlib.Core.List.{◌∷◌, ◌++◌}
 use Rattle.reply.specs.Bytes.{Bytes}
 use Rattle.query.specs.Syntax.{Path, either, then, Filter, or, and}

@@ -2,7 +2,7 @@
 use Rattle.std.specs.Prelude.{ℕ, ◌+◌, ◌-◌, [], ◌∷◌, ◌++◌, length}
 use Rattle.query.specs.Syntax.{Path, self, child, parent, next, previous, stay, then, either, star}
 use Rattle.query.specs.Syntax.{Filter, labelled, leads, always, never, not, and, or}
-use Rattle.query.specs.Table.{Entry, Entries}
+use Rattle.query.specs.Table.{Entries}
 
 abbrev entry : ℕ → ℕ → ℕ → ℕ → Entries
 entry kind label left right = record { kind = kind; label = label; left = left; right = right } ∷ []

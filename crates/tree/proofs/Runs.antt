@@ -8,21 +8,7 @@ use mathlib.Core.Path.{◌≡◌}
 use mathlib.Core.Logic.{◌⊎◌, inl, inr}
 use lib.ListN.{length}
 use Rattle.tree.specs.Tree.{Tree, parent_at, Child, Next, Above, here, up, InOrder, RunEnds}
-use Rattle.tree.proofs.Order.{
-  above_trans,
-  child_above,
-  above_le,
-  above_node,
-  above_antisym,
-  parent_smaller,
-  child_less,
-  child_node,
-  above_parent,
-  above_linear,
-  root_above,
-  child_before,
-  no_gap,
-}
+use Rattle.tree.proofs.Order.{above_trans, child_above, above_le, above_node, above_antisym, parent_smaller, child_less, child_node, above_parent, above_linear, child_before, no_gap}
 use Rattle.tree.proofs.Siblings.{child_unique, next_unique, previous_or_first}
 
 -- the first record from j up to b whose parent comes before k, or b if there is none

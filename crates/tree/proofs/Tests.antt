@@ -9,7 +9,6 @@ use mathlib.Core.Bool.{Bool, true, false, cond, not, ◌&&◌, ◌||◌}
 use mathlib.Core.List.{List, [], ◌∷◌}
 use lib.ListN.{get_or}
 use lib.Dec.{T, T_not, not_T, ltb, eqb, ltb→lt, lt→ltb, eqb→eq, eqb_refl}
-use borrow.Author.Tests.{not-false}
 use mir.Facts.{and_yes, yes_and, or_yes}
 
 -- the test passes exactly where the statement holds

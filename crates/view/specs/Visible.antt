@@ -1,7 +1,7 @@
 -- Who is visible: "nearest annotated ancestor or self decides" (source document 003).
-use Rattle.std.specs.Prelude.{ℕ, ◌<◌}
+use Rattle.std.specs.Prelude.{ℕ}
 use mathlib.Core.List.{List, Memᴰ}
-use Rattle.tree.specs.Tree.{Tree, label_at, parent_at, Child}
+use Rattle.tree.specs.Tree.{Tree, label_at, Child}
 use Rattle.query.specs.Syntax.{Filter}
 use Rattle.query.specs.Meaning.{holds}
 use Rattle.view.specs.Annotation.{Rule}

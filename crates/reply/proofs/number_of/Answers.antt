@@ -1,6 +1,5 @@
 -- `number_of`: the number of each case is the one that the definition lists.
 use mathlib.Core.Path.{sym, ap}
-use borrow.Author.Rules.{rules}
 use Rattle.reply.specs.Reply.{number}
 use Rattle.reply.proofs.number_of.Goals as goal
 

@@ -1,5 +1,4 @@
 -- `put_two_bytes`: the low byte, and the high byte behind it.
-use borrow.Author.Rules.{rules}
 use native.Mathlib.Numerals.{towards_suc}
 use native.Mathlib.Omega.{arith}
 use lib.ListN.{length-set}

@@ -1,10 +1,8 @@
 -- `climb`. The loop's invariant: the climb has come to a record behind the one wanted, on the way from its start
 -- upwards. The measure is the record's number, since parents are smaller.
-use Prim.Native.Nat.{suc, ◌<◌}
+use Prim.Native.Nat.{suc}
 use native.Mathlib.Omega.{arith}
-use mathlib.Core.Path.{◌≡◌}
-use borrow.Author.Rules.{rules}
-use Rattle.tree.specs.Tree.{parent_at, Above, here}
+use Rattle.tree.specs.Tree.{here}
 use Rattle.roll.specs.Roll.{nodes}
 use Rattle.roll.proofs.Climbing.{in_order_to, climb_step, climb_less}
 use Rattle.roll.proofs.climb.climb.Goals as goal

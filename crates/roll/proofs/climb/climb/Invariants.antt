@@ -1,12 +1,9 @@
 -- `climb`. The loop's invariant: the climb has come to a record behind the one wanted, on the way from its start
 -- upwards. The measure is the record's number, since parents are smaller.
-use Prim.Native.Nat.{suc, ◌<◌}
-use native.Mathlib.Omega.{arith}
+use Prim.Native.Nat.{◌<◌}
 use mathlib.Core.Path.{◌≡◌}
-use borrow.Author.Rules.{rules}
-use Rattle.tree.specs.Tree.{parent_at, Above, here}
+use Rattle.tree.specs.Tree.{parent_at, Above}
 use Rattle.roll.specs.Roll.{nodes}
-use Rattle.roll.proofs.Climbing.{in_order_to, climb_step, climb_less}
 use Rattle.roll.proofs.climb.climb.Given as goal
 
 abbrev pub invariant-loop-parent : goal.invariant-loop-parent

@@ -3,7 +3,6 @@
 use Prim.Native.Nat.{◌-◌, ◌<◌}
 use native.Mathlib.Omega.{arith}
 use mathlib.Core.Path.{sym}
-use borrow.Author.Rules.{rules}
 use Rattle.tree.specs.Tree.{Child}
 use Rattle.tree.proofs.Order.{child_less}
 use Rattle.roll.specs.Roll.{nodes}

@@ -1,9 +1,8 @@
 -- `end_of`. The loop's invariant: the records passed behind k have their parents at k or behind it. The measure is
 -- the number of records that are left.
-use Prim.Native.Nat.{ℕ, ◌-◌, ◌≤◌, ◌<◌}
+use Prim.Native.Nat.{◌<◌}
 use native.Mathlib.Omega.{arith}
 use borrow.Author.Count.{below_more}
-use borrow.Author.Rules.{rules}
 use lib.ListN.{length}
 use Rattle.tree.specs.Tree.{parent_at, RunEnds}
 use Rattle.tree.proofs.Runs.{run_ends_at}

@@ -3,7 +3,6 @@
 use Prim.Native.Nat.{◌*◌, ◌≤◌, ◌<◌}
 use native.Mathlib.Omega.{arith}
 use mathlib.Core.Path.{◌≡◌, refl}
-use borrow.Author.Rules.{rules}
 use lib.ListN.{length}
 use Rattle.roll.specs.Roll.{nodes, Roll}
 use Rattle.roll.specs.Promise.{bad_roll, no_record}

@@ -1,6 +1,5 @@
 -- `check_node`: each test is one part of a record that is right, and a refusal is for the first part that is not.
 use mathlib.Core.Path.{◌≡◌, refl}
-use borrow.Author.Rules.{rules}
 use Rattle.reply.proofs.Checking.{passes, lowest_refused}
 use Rattle.tree.specs.Tree.{Label, label_at}
 use Rattle.tree.proofs.Tests.{test_failed, test_passed}

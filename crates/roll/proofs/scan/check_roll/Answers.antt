@@ -1,12 +1,11 @@
 -- `check_roll`. The loop's invariant: the records passed are right. The measure is the number of records that are
 -- left.
-use Prim.Native.Nat.{ℕ, ◌-◌, ◌≤◌, ◌<◌}
 use native.Mathlib.Omega.{arith}
 use borrow.Author.Count.{below_more}
 use borrow.Author.Rules.{rules}
 use Rattle.reply.proofs.Checking.{right_of, passed_up}
 use Rattle.tree.proofs.Tests.{test_failed, test_passed}
-use Rattle.roll.specs.Roll.{NodeRight, RollLength, bad_node}
+use Rattle.roll.specs.Roll.{RollLength, bad_node}
 use Rattle.roll.specs.Promise.{RollChecked}
 use Rattle.roll.proofs.Checking.{length_refused, roll_counted}
 use Rattle.roll.proofs.scan.check_roll.Goals as goal

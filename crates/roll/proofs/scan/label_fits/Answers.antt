@@ -1,5 +1,4 @@
 -- `label_fits`: what is tested is the record's label.
-use borrow.Author.Rules.{rules}
 use Rattle.roll.proofs.scan.label_fits.Goals as goal
 
 pub returns : goal.returns

@@ -2,7 +2,6 @@
 -- smaller, with the parent of what the climb comes to.
 use Prim.Native.Nat.{◌-◌}
 use native.Mathlib.Omega.{arith}
-use borrow.Author.Rules.{rules}
 use Rattle.roll.specs.Roll.{nodes}
 use Rattle.roll.proofs.Climbing.{root_test, near_test, far_test}
 use Rattle.roll.proofs.scan.parent_fits.Goals as goal

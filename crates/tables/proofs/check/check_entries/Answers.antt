@@ -1,16 +1,11 @@
 -- `tables::check::check_entries`: the walk comes to the lowest entry that is not in order or too high, or to the end.
-use Prim.Native.Nat.{ℕ, ◌-◌, ◌≤◌}
-use mathlib.Core.Path.{◌≡◌, refl}
-use mathlib.Core.List.{List}
-use lib.ListN.{length, length-set}
+use mathlib.Core.Path.{refl}
+use lib.ListN.{length-set}
 use native.Mathlib.Omega.{arith}
-use borrow.Author.Rules.{rules}
-use Rattle.reply.specs.Bytes.{Bytes}
 use Rattle.tree.proofs.Tests.{test_passed, test_failed}
 use Rattle.query.specs.Table.{entries, EntryRight}
-use Rattle.tables.proofs.Walk.{Walked, walk_starts, walk_on, walk_ends, walk_malformed, walk_high}
+use Rattle.tables.proofs.Walk.{walk_starts, walk_on, walk_ends, walk_malformed, walk_high}
 use Rattle.tables.proofs.check.check_entries.Goals as goal
-use Rattle.tables.proofs.check.check_entries.Invariants.{Standing}
 use Rattle.tables.proofs.check.check_entries.Goals.{Else-not-entry_right}
 
 -- entry i has passed the test

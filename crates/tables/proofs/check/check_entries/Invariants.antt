@@ -1,14 +1,11 @@
 -- `tables::check::check_entries`: the walk comes to the lowest entry that is not in order or too high, or to the end.
 use Prim.Native.Nat.{ℕ, ◌-◌, ◌≤◌}
-use mathlib.Core.Path.{◌≡◌, refl}
+use mathlib.Core.Path.{◌≡◌}
 use mathlib.Core.List.{List}
-use lib.ListN.{length, length-set}
-use native.Mathlib.Omega.{arith}
-use borrow.Author.Rules.{rules}
+use lib.ListN.{length}
 use Rattle.reply.specs.Bytes.{Bytes}
-use Rattle.tree.proofs.Tests.{test_passed, test_failed}
-use Rattle.query.specs.Table.{entries, EntryRight}
-use Rattle.tables.proofs.Walk.{Walked, walk_starts, walk_on, walk_ends, walk_malformed, walk_high}
+use Rattle.query.specs.Table.{entries}
+use Rattle.tables.proofs.Walk.{Walked}
 use Rattle.tables.proofs.check.check_entries.Given as goal
 
 -- where the walk stands before entry i

@@ -5,7 +5,6 @@ use Rattle.reply.specs.Reply.{said}
 use Rattle.tree.proofs.Tests.{test_passed, test_failed}
 use Rattle.query.specs.Fault.{filters}
 use Rattle.tables.proofs.Outcomes.{entries_within, filter_length, filter_entries}
-use borrow.Author.Rules.{rules}
 use Rattle.tables.proofs.check.check_filters.Goals as goal
 
 pub returns-then-not-whole : goal.returns-then-not-whole

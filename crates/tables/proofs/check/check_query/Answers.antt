@@ -3,13 +3,11 @@
 use native.Mathlib.Omega.{arith}
 use mathlib.Core.Path.{refl, sym, ◌∙◌}
 use mathlib.Core.Logic.{◌↔◌}
-use mathlib.Core.Bool.{Bool, ◌&&◌}
+use mathlib.Core.Bool.{◌&&◌}
 use lib.Dec.{T, ltb}
 use lib.ListN.{length}
-use borrow.Author.Rules.{rules}
-use Rattle.reply.specs.declared.Reply.{Reply}
 use Rattle.reply.specs.Reply.{said}
-use Rattle.reply.specs.Bytes.{Bytes, Whole}
+use Rattle.reply.specs.Bytes.{Whole}
 use Rattle.tree.proofs.Tests.{Decides, test_passed, test_failed}
 use Rattle.query.specs.Fault.{Limits, QueryLength}
 use Rattle.tables.specs.Promise.{EntriesChecked}

@@ -1,6 +1,5 @@
 -- `tables::check::whole`: the length is a multiple of six, and there are not too many entries.
 use Rattle.tables.proofs.Deciding.{whole_test}
-use borrow.Author.Rules.{rules}
 use Rattle.tables.proofs.check.whole.Goals as goal
 
 pub returns : goal.returns

@@ -1,9 +1,7 @@
 -- `tables::entry::put`: two stores and two numbers are the bytes of an entry.
-use Prim.Native.Nat.{ℕ, ◌+◌, ◌*◌}
 use mathlib.Core.Path.{◌≡◌, ap, ◌∙◌}
 use lib.ListN.{length, length-set}
 use lib.Seq.{length-sets}
-use borrow.Author.Rules.{rules}
 use native.Mathlib.Omega.{arith}
 use Rattle.tables.proofs.Entries.{stored}
 use Rattle.tables.proofs.entry.put.Goals as goal

@@ -4,7 +4,6 @@ use mathlib.Core.Path.{ap, ◌∙◌}
 use Rattle.query.specs.Kind.{row_of}
 use Rattle.query.specs.Table.{row_at}
 use Rattle.tables.specs.Shape.{sort_of}
-use borrow.Author.Rules.{rules}
 use Rattle.tables.proofs.entry.sort_at.Goals as goal
 
 pub returns : goal.returns

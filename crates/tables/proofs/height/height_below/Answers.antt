@@ -2,7 +2,6 @@
 use Prim.Native.Nat.{ℕ, ◌+◌}
 use mathlib.Core.Path.{ap, ◌∙◌}
 use Rattle.tables.proofs.Heights.{height_read}
-use borrow.Author.Rules.{rules}
 use Rattle.tables.proofs.height.height_below.Goals as goal
 
 pub returns : goal.returns

@@ -2,7 +2,6 @@
 use mathlib.Core.Path.{sym, ◌∙◌}
 use lib.ListN.{get_or-eq_default}
 use Rattle.tables.proofs.Heights.{height_unused, height_used}
-use borrow.Author.Rules.{rules}
 use Rattle.tables.proofs.height.operand_height.Goals as goal
 
 pub returns-then-sort-eq-NONE : goal.returns-then-sort-eq-NONE

@@ -1,5 +1,4 @@
 -- `tables::kinds::shape_of`: it takes the byte of the row apart.
-use borrow.Author.Rules.{rules}
 use Rattle.query.specs.Kind.{row_of}
 use Rattle.tables.proofs.KindTable.{taken_apart}
 use Rattle.tables.proofs.kinds.shape_of.Goals as goal

@@ -1,5 +1,4 @@
 -- `tables::kinds::sort_of`: it takes the sort from the byte of the row.
-use borrow.Author.Rules.{rules}
 use Rattle.query.specs.Kind.{row_of}
 use Rattle.tables.proofs.KindTable.{taken_apart}
 use Rattle.tables.proofs.kinds.sort_of.Goals as goal

@@ -2,7 +2,6 @@
 use Rattle.tree.proofs.Tests.{Decides}
 use Rattle.query.specs.Table.{entries, LabelField}
 use Rattle.tables.proofs.Deciding.{entry_test, operand_tested}
-use borrow.Author.Rules.{rules}
 use Rattle.tables.proofs.order.entry_right.Goals as goal
 
 pub returns : goal.returns

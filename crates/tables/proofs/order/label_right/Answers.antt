@@ -1,5 +1,4 @@
 -- `tables::order::label_right`: an unused label is 0, and a used one is a label.
-use borrow.Author.Rules.{rules}
 use Rattle.tables.proofs.Deciding.{label_used, label_unused}
 use Rattle.tables.proofs.order.label_right.Goals as goal
 

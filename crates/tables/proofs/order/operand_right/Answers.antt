@@ -1,7 +1,6 @@
 -- `tables::order::operand_right`: an unused operand is 0, and a used one is an earlier entry of its sort.
 use Rattle.query.specs.Table.{entries}
 use Rattle.tables.proofs.Deciding.{operand_unused, operand_used}
-use borrow.Author.Rules.{rules}
 use Rattle.tables.proofs.order.operand_right.Goals as goal
 
 pub returns-then-sort-eq-NONE : goal.returns-then-sort-eq-NONE
