@@ -6,7 +6,7 @@ ghost use Rattle.checks.specs.Fields.{Fields};
 
 use tables::entry_at;
 
-#[derive(Drop)]
+#[derive(Clone, Copy)]
 pub struct Record {
     pub parent: usize,
     pub child: usize,

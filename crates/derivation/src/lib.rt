@@ -3,7 +3,7 @@
 #![tactic(auto)]
 
 // What is made of links that a byte joins: paths of sequences, sequences of items, filters of conjunctions, conjunctions of terms.
-#[derive(Drop)]
+#[derive(Clone, Copy)]
 pub enum Chain {
     Path,
     Sequence,
@@ -12,7 +12,7 @@ pub enum Chain {
 }
 
 // [ and ] around a filter, ( and ) around a path, { and } around a filter.
-#[derive(Drop)]
+#[derive(Clone, Copy)]
 pub enum Bracket {
     Square,
     Round,

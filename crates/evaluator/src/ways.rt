@@ -13,7 +13,7 @@ use crate::kinds::{CHILD, EITHER, NEXT, PARENT, PREVIOUS};
 use steps::{Axes, both, only};
 use tables::entry_at;
 
-#[derive(Drop)]
+#[derive(Clone, Copy)]
 pub enum Way {
     Along(Axes),
     Otherwise,

@@ -17,7 +17,7 @@ pub use limits::{
 };
 
 // Why a call refuses: one case for each row of the list of refusals.
-#[derive(Drop)]
+#[derive(Clone, Copy)]
 pub enum Reason {
     ShortRoom,
     RollLength,
@@ -42,13 +42,13 @@ pub enum Reason {
     ChildrenForbidden,
 }
 
-#[derive(Drop)]
+#[derive(Clone, Copy)]
 pub struct Refusal {
     pub reason: Reason,
     pub place: usize,
 }
 
-#[derive(Drop)]
+#[derive(Clone, Copy)]
 pub enum Reply {
     Count(usize),
     Refused(Refusal),

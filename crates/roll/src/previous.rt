@@ -5,7 +5,7 @@ ghost use Rattle.roll.specs.Sibling.{PreviousIs};
 use crate::climb::climb;
 use crate::node::{count, parent_at};
 
-#[derive(Drop)]
+#[derive(Clone, Copy)]
 pub enum Sibling {
     At(usize),
     Nothing,

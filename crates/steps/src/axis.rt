@@ -3,7 +3,7 @@ ghost use Rattle.std.specs.Prelude.{ℕ, ◌↔◌, ◌⊎◌, T};
 ghost use Rattle.tree.specs.Tree.{Tree};
 ghost use Rattle.steps.specs.Axis.{Along, AlongAny};
 
-#[derive(Drop)]
+#[derive(Clone, Copy)]
 pub enum Axis {
     Child,
     Parent,

@@ -9,7 +9,7 @@ ghost use Rattle.tables.specs.Laid.{laid, fields};
 use crate::kinds::sort_of;
 use reply::{put_two_bytes, two_bytes, wide};
 
-#[derive(Drop)]
+#[derive(Clone, Copy)]
 pub struct Entry {
     pub kind: usize,
     pub label: usize,

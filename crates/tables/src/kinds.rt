@@ -81,7 +81,7 @@ const KINDS: [u8; 23] = [
 ];
 
 // A kind's sort, the sorts of its left and right operand, and whether it uses its label.
-#[derive(Drop)]
+#[derive(Clone, Copy)]
 pub struct Shape {
     pub sort: u8,
     pub left: u8,

@@ -27,7 +27,7 @@ pub fn past_nots(text: &[u8], at: usize) -> usize
 }
 
 // A label and the place behind it.
-#[derive(Drop)]
+#[derive(Clone, Copy)]
 pub enum Label {
     Number { value: u8, next: usize },
     Nothing,

@@ -20,7 +20,7 @@ const FORWARDS: usize = 44;
 const BACKWARDS: usize = 55;
 
 // What stands for an entry of the query: a copy of a row, or the entry itself.
-#[derive(Drop)]
+#[derive(Clone, Copy)]
 pub enum StandIn {
     CopyOf(usize),
     Itself,
