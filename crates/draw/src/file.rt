@@ -8,14 +8,14 @@ use std::io::Read;
 use std::rt::Files;
 
 // How many bytes were read, or that a file cannot be read.
-#[derive(Drop)]
+#[derive(Clone, Copy)]
 pub enum More {
     Size(usize),
     Unreadable,
 }
 
 // A file in its buffer: how many bytes of it stand there, and whether it could be opened and read.
-#[derive(Drop)]
+#[derive(Clone, Copy)]
 pub struct Loaded {
     pub size: usize,
     pub readable: bool,

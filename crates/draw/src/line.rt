@@ -44,7 +44,7 @@ fn find(a: &[u8], from: usize, to: usize, b: u8) -> usize
 }
 
 // How far the input is answered, and how many bytes were written for it.
-#[derive(Drop)]
+#[derive(Clone, Copy)]
 pub struct Progress {
     pub read: usize,
     pub written: usize,

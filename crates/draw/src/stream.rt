@@ -26,7 +26,7 @@ pub fn unreadable(to: Stdout) {
 }
 
 // How far the input is answered, or that a write failed.
-#[derive(Drop)]
+#[derive(Clone, Copy)]
 enum Sent {
     UpTo(usize),
     Failed,
@@ -78,7 +78,7 @@ fn keep(buffer: &mut [u8], from: usize, to: usize) -> usize
 }
 
 // How many bytes of a line that has not ended are kept, or that nothing is left to do.
-#[derive(Drop)]
+#[derive(Clone, Copy)]
 enum Turn {
     Kept(usize),
     Over,
