@@ -9,7 +9,8 @@ use Rattle.view.specs.Visible.{root}
 use Rattle.view.specs.Promise.{Seen}
 use Rattle.view.proofs.Deciding.{dec_visible}
 use Rattle.theorem.proofs.Rewriting.{rewritten}
-use Rattle.theorem.proofs.VisibleFilter.{visible_by, visible_right}
+use Rattle.theorem.proofs.VisibleFilter.{visible_by}
+use Rattle.theorem.proofs.VisibleExactly.{visible_right}
 use Rattle.theorem.proofs.Theorem.{faithful}
 use Rattle.rewrite.specs.Promise.{Faithful}
 

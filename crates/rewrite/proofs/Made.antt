@@ -28,7 +28,7 @@ use Rattle.tables.specs.Laid.{laid}
 use Rattle.tables.specs.Promise.{EntriesRight}
 use Rattle.writer.specs.Laid.{Room, LabelBytes, Numbers}
 use Rattle.writer.proofs.Recording.{written_size}
-use Rattle.theorem.proofs.VisibleFilter.{visible_right}
+use Rattle.theorem.proofs.VisibleExactly.{visible_right}
 use Rattle.rewrite.specs.Promise.{Faithful, Rewritten}
 use Rattle.rewrite.specs.Visible.{visible_entry, VisibleTold}
 use Rattle.rewrite.proofs.Given.{table_front}

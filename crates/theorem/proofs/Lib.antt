@@ -5,3 +5,4 @@ pub mod Axes
 pub mod Theorem
 pub mod Twice
 pub mod VisibleFilter
+pub mod VisibleExactly

@@ -1,6 +1,5 @@
--- The filter that tells who is visible, made from annotation records and their filters as syntax, and the law that it holds exactly at
--- the visible nodes of every tree in document order. The annotation's own filters stay as they are: they speak of the whole roll.
--- Assumes nothing.
+-- The filter that tells who is visible, made from annotation records and their filters as syntax, and that it holds at the visible nodes.
+-- The annotation's own filters stay as they are: they speak of the whole roll. Assumes nothing.
 use Prim.Native.Nat.{ℕ, zero, suc, ◌<◌}
 use native.Mathlib.Omega.{arith}
 use mathlib.Core.Path.{◌≡◌, refl, sym, ◌∙◌, subst}
@@ -37,7 +36,7 @@ unfoldable pub visible_by : List Rule → Filter
 visible_by rules = leads (climbing rules)
 
 module _ (t : Tree) where
-  some_of_lem : (each : Rule → Filter) (rules : List Rule) (i : ℕ) → holds t (some_of each rules) i ↔ ((r : Rule) × Memᴰ r rules × holds t (each r) i)
+  pub some_of_lem : (each : Rule → Filter) (rules : List Rule) (i : ℕ) → holds t (some_of each rules) i ↔ ((r : Rule) × Memᴰ r rules × holds t (each r) i)
   unfolding some_of holds
   some_of_lem each [] i = (λ x. absurd x, λ x. absurd (Memᴰ.not-nil x.1))
   some_of_lem each (r ∷ more) i =
@@ -47,18 +46,18 @@ module _ (t : Tree) where
       )
 
   -- a record that is the node's own, as one of the rules for the node's pair
-  own : {rules : List Rule} {p i : ℕ} (r : Rule) → Child t p i → Memᴰ r rules → holds t (pair_of r) i → Ruled rules (label_at t p) (label_at t i) r.filter
+  pub own : {rules : List Rule} {p i : ℕ} (r : Rule) → Child t p i → Memᴰ r rules → holds t (pair_of r) i → Ruled rules (label_at t p) (label_at t i) r.filter
   unfolding pair_of holds
   own {p = p} r c m h =
       let above : h.1.1.0 ≡ p = sym h.1.1.1.parent ∙ c.parent in
       let labels : label_at t p ≡ r.parent = subst (λ (q : ℕ). label_at t q ≡ r.parent) above h.1.1.2.1 in
       Memᴰ.cast (λ k. record { parent = labels k; child = h.0 k; filter = r.filter }) m
 
-  owned : {rules : List Rule} {p i : ℕ} {f : Filter} → Child t p i → Ruled rules (label_at t p) (label_at t i) f → holds t (pair_of (record { parent = label_at t p; child = label_at t i; filter = f })) i
+  pub owned : {rules : List Rule} {p i : ℕ} {f : Filter} → Child t p i → Ruled rules (label_at t p) (label_at t i) f → holds t (pair_of (record { parent = label_at t p; child = label_at t i; filter = f })) i
   unfolding pair_of holds
   owned {p = p} c m = (refl, (p, (p, c, (refl, refl))))
 
-  visible_shown : {rules : List Rule} {i : ℕ} → Visible t rules i → holds t (visible_by rules) i
+  pub visible_shown : {rules : List Rule} {i : ℕ} → Visible t rules i → holds t (visible_by rules) i
   unfolding visible_by climbing showing holds
   visible_shown root = (0, (0, stop, (refl, inl (λ x. absurd (omega (arith, x.1.later))))))
   visible_shown {rules} (shown {i = i} {f = f} c r h) = (i, (i, stop, (refl, inr ((some_of_lem showing rules i).1 (_, r, (owned c r, h))))))
@@ -68,7 +67,7 @@ module _ (t : Tree) where
       (j, (k, step (i, (refl, free), c) up, at))
 
   -- a node is visible where it has no parent or a record shows it
-  shown_here : (rules : List Rule) (i : ℕ) → i < length t → holds t (or (not (leads parent)) (some_of showing rules)) i → Visible t rules i
+  pub shown_here : (rules : List Rule) (i : ℕ) → i < length t → holds t (or (not (leads parent)) (some_of showing rules)) i → Visible t rules i
   unfolding showing holds
   shown_here rules zero l at = root
   shown_here rules (suc i) l at =
@@ -77,17 +76,3 @@ module _ (t : Tree) where
       (λ none. absurd (none (parent_at t (suc i), child)))
       (λ s. let (r, m, h) = (some_of_lem showing rules (suc i)).0 s in shown child (own r child m h.0) h.1)
       at
-
-  -- from a node, up a climb that ends at a node that is shown
-  climbed : (o : InOrder t) (rules : List Rule) {i k : ℕ} → i < length t → Star (reach t (then (stay (not (some_of pair_of rules))) parent)) i k
-      → holds t (or (not (leads parent)) (some_of showing rules)) k → Visible t rules i
-  unfolding holds
-  climbed o rules {i} l stop at = shown_here rules i l at
-  climbed o rules {i} l (step {k = p} (m, (e, free), c) up) at =
-      let child : Child t p i = subst (λ (x : ℕ). Child t p x) (sym e) c in
-      inherits child (λ f r. free ((some_of_lem pair_of rules i).1 (_, r, owned child r))) (climbed o rules (child_node t o child) up at)
-
-  -- the filter holds exactly at the visible nodes
-  pub visible_right : (o : InOrder t) (rules : List Rule) (i : ℕ) → i < length t → holds t (visible_by rules) i ↔ Visible t rules i
-  unfolding visible_by climbing holds
-  visible_right o rules i l = (λ (j, (k, up, at)). climbed o rules l up at.1, visible_shown)
