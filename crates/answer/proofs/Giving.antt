@@ -18,11 +18,6 @@ use Rattle.sets.proofs.Size.{bytes_ones}
 use Rattle.answer.specs.Bitmap.{bit, Bitmap, SetGiven}
 use Rattle.answer.specs.Given.{BitmapGiven}
 
--- 512 bytes that are copied to the front of a room stand there, with the room behind them
-pub in_front : (before : Bytes) {map part : List ℕ} → length map ≡ 512 → part ≡ map
-    → part ++ drop 512 before ≡ take (length map) map ++ drop (length map) before
-in_front before size same = rw (take-length, size) (ap (λ (part : List ℕ). part ++ drop 512 before) same)
-
 module _ (set map : List ℕ) (words : length set ≡ 64) (bytes : length map ≡ 512)
     (fits : (j : ℕ) → Fits w64 (get_or set j 0)) (low : (j : ℕ) → Fits w8 (get_or map j 0))
     (same : (k : ℕ) → k < 4096 → bit_of 8 map k ≡ bit_of 64 set k) where

@@ -4,7 +4,7 @@ use native.Mathlib.Omega.{arith}
 use mathlib.Core.Path.{◌≡◌, refl, ap, ◌∙◌}
 use mathlib.Core.List.{[], ◌∷◌, ◌++◌, append_assoc}
 use lib.ListN.{length, take, drop, set, length-append}
-use lib.Seq.{sets, sets-eq, take_at, drop_at, length-take-le}
+use lib.Seq.{sets, sets-eq, take_at, drop_at, take-length, length-take-le}
 use Rattle.reply.specs.Bytes.{Bytes}
 
 -- bytes stored behind bytes
@@ -26,3 +26,8 @@ module _ (out : Bytes) (i : ℕ) (vs : Bytes) (h : i + length vs ≤ length out)
 
   pub stored_behind : drop (i + length vs) (sets out i vs) ≡ drop (i + length vs) out
   stored_behind = ap (drop (i + length vs)) whole ∙ drop_at (take i out ++ vs) _ (i + length vs) front_length
+
+-- what is copied to the front of some bytes stands there, with the bytes behind it
+pub copied_front : (before : Bytes) {n : ℕ} {source part : Bytes} → length source ≡ n → part ≡ source
+    → part ++ drop n before ≡ take (length source) source ++ drop (length source) before
+copied_front before {n} size same = rw (take-length, size) (ap (λ (part : Bytes). part ++ drop n before) same)

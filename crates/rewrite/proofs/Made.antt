@@ -42,11 +42,6 @@ lent b from = take (length b - from) (drop from b)
 abbrev restored : Bytes → ℕ → Bytes → Bytes
 restored b from part = take from b ++ (part ++ drop (length b - from) (drop from b))
 
--- what is copied to the front of some bytes stands there, with the bytes behind it
-pub in_front : (before : Bytes) {filters part : Bytes} → part ≡ filters
-    → part ++ drop (length filters) before ≡ take (length filters) filters ++ drop (length filters) before
-in_front before {filters} same = rw take-length (ap (λ (part : Bytes). part ++ drop (length filters) before) same)
-
 -- The filter table is copied to the front of the room, and entries are laid from its end on.
 module _ (before filters copied : Bytes) (size : ℕ) (is : size ≡ length filters) (room : length filters ≤ length before)
     (copy : copied ≡ take (length filters) filters ++ drop (length filters) before) where

@@ -4,7 +4,8 @@ use mathlib.Core.Path.{refl}
 use mathlib.Core.List.{◌++◌}
 use lib.ListN.{length, drop}
 use Rattle.reply.specs.Bytes.{Bytes}
-use Rattle.rewrite.proofs.Made.{in_front, writer_given, made, made_told, short_count}
+use Rattle.reply.proofs.Stores.{copied_front}
+use Rattle.rewrite.proofs.Made.{writer_given, made, made_told, short_count}
 use Rattle.rewrite.proofs.write_rewritten.Goals as goal
 use Rattle.rewrite.proofs.write_rewritten.Goals.{After-copy_from_slice}
 
@@ -18,7 +19,7 @@ write_behind-behind-requires c =
     let at_copy = (goal.at.write_behind-behind-requires c).After-copy_from_slice in
     let (annotated, asked) = c.requires.annotated in
     let (room, (labels, (right, numbers))) =
-    writer_given annotated asked c.args.room.now (front at_copy) (length c.args.filters.now) c.requires.in_bounds refl (in_front _ c.copy_from_slice.ensures.after)
+    writer_given annotated asked c.args.room.now (front at_copy) (length c.args.filters.now) c.requires.in_bounds refl (copied_front _ refl c.copy_from_slice.ensures.after)
     c.count-first.ensures in
     record { room = room; label_bytes = labels; entries_right = right; numbers = numbers }
 
@@ -37,7 +38,7 @@ returns c =
     let size = length c.args.filters.now in
     record {
       rewritten =
-          made annotated asked room (front at_copy) size c.requires.in_bounds refl (in_front _ c.copy_from_slice.ensures.after) c.count-first.ensures many laid_there;
+          made annotated asked room (front at_copy) size c.requires.in_bounds refl (copied_front _ refl c.copy_from_slice.ensures.after) c.count-first.ensures many laid_there;
       visible_told =
-          made_told annotated asked room (front at_copy) size c.requires.in_bounds refl (in_front _ c.copy_from_slice.ensures.after) c.count-first.ensures many laid_there;
+          made_told annotated asked room (front at_copy) size c.requires.in_bounds refl (copied_front _ refl c.copy_from_slice.ensures.after) c.count-first.ensures many laid_there;
     }
