@@ -1,10 +1,10 @@
 -- How a check comes to what it promises. Assumes nothing.
 use Prim.Native.Nat.{ℕ, zero-le, ◌<◌}
 use native.Mathlib.Omega.{arith}
-use mathlib.Core.Path.{◌≡◌, refl}
+use mathlib.Core.Path.{◌≡◌, refl, ap, ◌∙◌}
 use Rattle.reply.specs.declared.Refusal.{Refusal}
-use Rattle.reply.specs.declared.Reply.{Reply}
-use Rattle.reply.specs.declared.Reply.TheVariants.{Count, Refused}
+use Rattle.std.specs.Prelude.{Result, Ok, Err, IsErrAnd}
+use Rattle.std.proofs.lemmas.Result.{err_from_is_err_and}
 use Rattle.reply.specs.Bytes.{Bytes}
 use Rattle.reply.specs.Reply.{Said, count, refused, said}
 use Rattle.reply.specs.Outcome.{Lowest, InTurn, first, behind, Outcome, done, short, turned_away, Checked}
@@ -22,6 +22,10 @@ pub in_turn_as : {Right : Type 0} {First Behind Other : ℕ → ℕ → Type 0} 
     → (n p : ℕ) → InTurn Right First Behind n p → InTurn Right First Other n p
 in_turn_as other n p (first fault) = first fault
 in_turn_as other n p (behind right fault) = behind right (other n p fault)
+
+-- what a `?` returns is the refusal that it met
+pub met : {up : Result ℕ Refusal} {x : Refusal} → IsErrAnd up (λ y. y ≡ x) → up ≡ Err x
+met {up = up} h = let p = err_from_is_err_and up h in p.1 ∙ ap Err p.2
 
 module _ {Right : Type 0} {Fault : ℕ → ℕ → Type 0} {size : ℕ} where
   -- a right input is counted
@@ -42,16 +46,16 @@ module _ {Right : Type 0} {Fault : ℕ → ℕ → Type 0} {size : ℕ} where
   faulted (turned_away room fault) = fault
 
   -- an input whose check replies with a count is right, and the count is its size
-  pub right_counted : {c : ℕ} {r : Reply} → r ≡ Count c → Checked Right Fault size (said r) → Right × (c ≡ size)
+  pub right_counted : {c : ℕ} {r : Result ℕ Refusal} → r ≡ Ok c → Checked Right Fault size (said r) → Right × (c ≡ size)
   right_counted e h = counted (rw e at h)
 
-  pub right_of : {c : ℕ} {r : Reply} → r ≡ Count c → Checked Right Fault size (said r) → Right
+  pub right_of : {c : ℕ} {r : Result ℕ Refusal} → r ≡ Ok c → Checked Right Fault size (said r) → Right
   right_of e h = (right_counted e h).0
 
   -- a refusal is passed up at once, where the fault is one of what is checked above
-  pub passed_up : {Above : Type 0} {Listed : ℕ → ℕ → Type 0} {most : ℕ} {r : Reply} {x : Refusal}
-      → ((n p : ℕ) → Fault n p → Listed n p) → r ≡ Refused x → Checked Right Fault size (said r) → Checked Above Listed most (said r)
-  passed_up listed e h = rw e (turned_away zero-le (listed _ _ (faulted (rw e at h))))
+  pub passed_up : {Above : Type 0} {Listed : ℕ → ℕ → Type 0} {most : ℕ} {r up : Result ℕ Refusal} {x : Refusal}
+      → ((n p : ℕ) → Fault n p → Listed n p) → r ≡ Err x → up ≡ Err x → Checked Right Fault size (said r) → Checked Above Listed most (said up)
+  passed_up listed e f h = rw f (turned_away zero-le (listed _ _ (faulted (rw e at h))))
 
   -- a check of one thing is a check of another that is right where it is right and has its faults
   pub checked_as : {Whole : Type 0} {Listed : ℕ → ℕ → Type 0} {s : Said}

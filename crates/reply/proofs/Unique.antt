@@ -8,8 +8,8 @@ use mathlib.Core.List.{[], ◌∷◌, ◌++◌}
 use lib.ListN.{length, get_or, drop}
 use Rattle.reply.specs.declared.Reason.{Reason}
 use Rattle.reply.specs.declared.Reason.TheVariants.{ShortRoom, RollLength, NodeLabel, SecondByte, ParentField, AnnotationLength, FilterLength, EntryMalformed, EntryHeight, AnnotationRecord, PairOrder, QueryTable, TextLength, NotInGrammar, TooManyOpen, TableTooLarge, FileUnreadable, TextTooLong, TwoStars, RulesMalformed, ChildrenForbidden}
-use Rattle.reply.specs.declared.Reply.{Reply}
-use Rattle.reply.specs.declared.Reply.TheVariants.{Count, Refused}
+use Rattle.std.specs.Prelude.{Result, Ok, Err}
+use Rattle.reply.specs.declared.Refusal.{Refusal}
 use Rattle.reply.specs.Reply.{number, Said, count, refused, said}
 use Rattle.reply.specs.Bytes.{Bytes, Written}
 use Rattle.reply.specs.Outcome.{Lowest, InTurn, first, behind, Outcome, done, short, turned_away, Checked}
@@ -99,12 +99,12 @@ unfolding reason_of
 no_reason r e = let first : r ≡ ShortRoom = sym (reason_of_lem r) ∙ ap reason_of e in omega (arith, ap number first)
 
 -- "a reply carries either a count or a refusal's number with its place": two replies that say the same are equal
-pub said_one : (r s : Reply) → said r ≡ said s → r ≡ s
-said_one (Count n) (Count m) e = ap Count (cc)
-said_one (Count n) (Refused b) e = let z : ◌≡◌ {A = ℕ} 0 1 = cc in absurd (omega arith)
-said_one (Refused a) (Count m) e = let z : ◌≡◌ {A = ℕ} 0 1 = cc in absurd (omega arith)
-said_one (Refused a) (Refused b) e =
+pub said_one : (r s : Result ℕ Refusal) → said r ≡ said s → r ≡ s
+said_one (Ok n) (Ok m) e = ap Ok (cc)
+said_one (Ok n) (Err b) e = let z : ◌≡◌ {A = ℕ} 0 1 = cc in absurd (omega arith)
+said_one (Err a) (Ok m) e = let z : ◌≡◌ {A = ℕ} 0 1 = cc in absurd (omega arith)
+said_one (Err a) (Err b) e =
     let numbers : number a.reason ≡ number b.reason = cc in
     let places : a.place ≡ b.place = cc in
     let reasons : a.reason ≡ b.reason = sym (reason_of_lem a.reason) ∙ ap reason_of numbers ∙ reason_of_lem b.reason in
-    ap Refused (λ i. record { reason = reasons i; place = places i })
+    ap Err (λ i. record { reason = reasons i; place = places i })

@@ -1,10 +1,9 @@
 -- "A reply carries either a count or a refusal's number with its place."
 -- What each case of the reply's enum stands for: this list, and no other, says which number a reason has.
-use Rattle.std.specs.Prelude.{ℕ}
+use Rattle.std.specs.Prelude.{ℕ, Result, Ok, Err}
 use Rattle.reply.specs.declared.Reason.{Reason}
 use Rattle.reply.specs.declared.Reason.TheVariants.{ShortRoom, RollLength, NodeLabel, SecondByte, ParentField, AnnotationLength, FilterLength, EntryMalformed, EntryHeight, AnnotationRecord, PairOrder, QueryTable, TextLength, NotInGrammar, TooManyOpen, TableTooLarge, FileUnreadable, TextTooLong, TwoStars, RulesMalformed, ChildrenForbidden}
-use Rattle.reply.specs.declared.Reply.{Reply}
-use Rattle.reply.specs.declared.Reply.TheVariants.{Count, Refused}
+use Rattle.reply.specs.declared.Refusal.{Refusal}
 
 -- "Numbers given back on refusal": the number of each row.
 abbrev pub number : Reason → ℕ
@@ -35,6 +34,6 @@ pub data Said : Type 0 where
   count : ℕ → Said
   refused : (number place : ℕ) → Said
 
-abbrev pub said : Reply → Said
-said (Count n) = count n
-said (Refused r) = refused (number r.reason) r.place
+abbrev pub said : Result ℕ Refusal → Said
+said (Ok n) = count n
+said (Err r) = refused (number r.reason) r.place

@@ -5,7 +5,7 @@
 
 mod limits;
 
-ghost use Rattle.std.specs.Prelude.{◌≡◌, ◌+◌, ◌<◌, ◌≤◌, length};
+ghost use Rattle.std.specs.Prelude.{◌≡◌, ◌+◌, ◌≤◌, length};
 ghost use Rattle.std.proofs.lemmas.List.Edits.{sets};
 ghost use Rattle.reply.specs.Bytes.{two, two_bytes};
 ghost use Rattle.reply.specs.Reply.{number, refused, said};
@@ -16,30 +16,30 @@ pub use limits::{
     RULE_HEIGHT, TABLE_ROOM, TEXT_BYTES,
 };
 
-// Why a call refuses: one case for each row of the list of refusals.
+// Why a call refuses: one case for each row of the list of refusals, with its number.
 #[derive(Clone, Copy)]
 pub enum Reason {
-    ShortRoom,
-    RollLength,
-    NodeLabel,
-    SecondByte,
-    ParentField,
-    AnnotationLength,
-    FilterLength,
-    EntryMalformed,
-    EntryHeight,
-    AnnotationRecord,
-    PairOrder,
-    QueryTable,
-    TextLength,
-    NotInGrammar,
-    TooManyOpen,
-    TableTooLarge,
-    FileUnreadable,
-    TextTooLong,
-    TwoStars,
-    RulesMalformed,
-    ChildrenForbidden,
+    ShortRoom = 1,
+    RollLength = 2,
+    NodeLabel = 3,
+    SecondByte = 4,
+    ParentField = 5,
+    AnnotationLength = 6,
+    FilterLength = 7,
+    EntryMalformed = 8,
+    EntryHeight = 9,
+    AnnotationRecord = 10,
+    PairOrder = 11,
+    QueryTable = 12,
+    TextLength = 13,
+    NotInGrammar = 14,
+    TooManyOpen = 15,
+    TableTooLarge = 16,
+    FileUnreadable = 17,
+    TextTooLong = 18,
+    TwoStars = 19,
+    RulesMalformed = 20,
+    ChildrenForbidden = 21,
 }
 
 #[derive(Clone, Copy)]
@@ -48,60 +48,28 @@ pub struct Refusal {
     pub place: usize,
 }
 
-#[derive(Clone, Copy)]
-pub enum Reply {
-    Count(usize),
-    Refused(Refusal),
-}
+// "Either a count or a refusal's number with its place."
+pub type Reply = Result<usize, Refusal>;
 
 // The refusal for a reason, at a place.
 pub fn refuse(reason: Reason, place: usize) -> Reply
     ensures { said result ≡ refused (number reason) place }
 {
-    Reply::Refused(Refusal { reason, place })
+    Err(Refusal { reason, place })
 }
 
-// The number of a reason, as the list of refusals has it. A reason is matched here and nowhere else.
+// The number of a reason, as the list of refusals has it.
 pub fn number_of(reason: Reason) -> u64
     ensures { result ≡ number reason }
 {
-    match reason {
-        Reason::ShortRoom => 1,
-        Reason::RollLength => 2,
-        Reason::NodeLabel => 3,
-        Reason::SecondByte => 4,
-        Reason::ParentField => 5,
-        Reason::AnnotationLength => 6,
-        Reason::FilterLength => 7,
-        Reason::EntryMalformed => 8,
-        Reason::EntryHeight => 9,
-        Reason::AnnotationRecord => 10,
-        Reason::PairOrder => 11,
-        Reason::QueryTable => 12,
-        Reason::TextLength => 13,
-        Reason::NotInGrammar => 14,
-        Reason::TooManyOpen => 15,
-        Reason::TableTooLarge => 16,
-        Reason::FileUnreadable => 17,
-        Reason::TextTooLong => 18,
-        Reason::TwoStars => 19,
-        Reason::RulesMalformed => 20,
-        Reason::ChildrenForbidden => 21,
-    }
-}
-
-// A byte as a number.
-pub fn wide(x: u8) -> usize
-    ensures { (result ≡ x) × (result < 256) }
-{
-    x as usize
+    reason as u64
 }
 
 // "All two-byte numbers have the low byte first."
 pub fn two_bytes(low: u8, high: u8) -> usize
     ensures { result ≡ two low high }
 {
-    wide(low) + 256 * wide(high)
+    usize::from(u16::from_le_bytes([low, high]))
 }
 
 // Writes a two-byte number at a place.

@@ -3,8 +3,7 @@ use Prim.Native.Nat.{ℕ, ◌<◌}
 use mathlib.Core.Path.{◌≡◌}
 use lib.ListN.{length}
 use Rattle.reply.specs.declared.Refusal.{Refusal}
-use Rattle.reply.specs.declared.Reply.{Reply}
-use Rattle.reply.specs.declared.Reply.TheVariants.{Count, Refused}
+use Rattle.std.specs.Prelude.{Result, Ok, Err}
 use Rattle.reply.specs.Reply.{number, Said, count, refused, said}
 use Rattle.reply.specs.Bytes.{Bytes}
 use Rattle.reply.proofs.Checking.{passes, fails, counted, faulted}
@@ -24,11 +23,11 @@ module _ (b : Bytes) where
   roll_counted size e right = passes (record { size = size; node = λ i l. right i (rw e l) }) e
 
   -- what the reply of the check tells a caller: the table is a roll of so many nodes, or
-  pub roll_right : {n : ℕ} {r : Reply} → r ≡ Count n → RollChecked b (said r) → Roll b × (n ≡ length (nodes b))
+  pub roll_right : {n : ℕ} {r : Result ℕ Refusal} → r ≡ Ok n → RollChecked b (said r) → Roll b × (n ≡ length (nodes b))
   unfolding RollChecked
   roll_right e h = counted (rw e at h)
 
   -- it is none
-  pub not_roll : {r : Reply} {x : Refusal} → r ≡ Refused x → RollChecked b (said r) → ¬ Roll b
+  pub not_roll : {r : Result ℕ Refusal} {x : Refusal} → r ≡ Err x → RollChecked b (said r) → ¬ Roll b
   unfolding RollChecked
   not_roll {x = x} e h = roll_wrong b (number x.reason) x.place (faulted (rw e at h))

@@ -1,9 +1,7 @@
 -- What an answer says of the previous sibling of record j: the record whose next sibling j is, or that there is none.
-use Rattle.std.specs.Prelude.{ℕ}
+use Rattle.std.specs.Prelude.{ℕ, Option, Some, None}
 use Rattle.tree.specs.Tree.{Tree, Next}
-use Rattle.roll.specs.declared.previous.Sibling.{Sibling}
-use Rattle.roll.specs.declared.previous.Sibling.TheVariants.{At, Nothing}
 
-abbrev pub PreviousIs : Tree → ℕ → Sibling → Type 0
-PreviousIs t j (At i) = Next t i j
-PreviousIs t j Nothing = (i : ℕ) → ¬ Next t i j
+abbrev pub PreviousIs : Tree → ℕ → Option ℕ → Type 0
+PreviousIs t j (Some i) = Next t i j
+PreviousIs t j None = (i : ℕ) → ¬ Next t i j

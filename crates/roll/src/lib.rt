@@ -9,6 +9,6 @@ mod run;
 mod scan;
 
 pub use node::{count, label_at, parent_at};
-pub use previous::{Sibling, previous_of};
+pub use previous::previous_of;
 pub use run::{end_of, run_of};
 pub use scan::{check_roll, second_fits};

@@ -3,7 +3,7 @@ ghost use Rattle.std.specs.Prelude.{◌≡◌, length};
 ghost use Rattle.tree.specs.Tree.{label_at, parent_at};
 ghost use Rattle.roll.specs.Roll.{nodes};
 
-use reply::{two_bytes, wide};
+use reply::two_bytes;
 
 // The number of whole records.
 pub fn count(roll: &[u8]) -> usize
@@ -19,7 +19,7 @@ pub fn label_at(roll: &[u8], i: usize) -> usize
     if count(roll) <= i {
         return 0;
     }
-    wide(roll[4 * i])
+    usize::from(roll[4 * i])
 }
 
 // The parent field of record i, 0 where there is no such record.

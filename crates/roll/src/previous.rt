@@ -5,28 +5,22 @@ ghost use Rattle.roll.specs.Sibling.{PreviousIs};
 use crate::climb::climb;
 use crate::node::{count, parent_at};
 
-#[derive(Clone, Copy)]
-pub enum Sibling {
-    At(usize),
-    Nothing,
-}
-
 // A first child stands right behind its parent. Any other record stands behind the run of its previous sibling, which
 // the climb from the record before it comes to.
-pub fn previous_of(roll: &[u8], j: usize) -> Sibling
+pub fn previous_of(roll: &[u8], j: usize) -> Option<usize>
     requires { Roll roll.now }
     ensures { PreviousIs (nodes roll.now) j result }
 {
     if j == 0 {
-        return Sibling::Nothing;
+        return None;
     }
     if count(roll) <= j {
-        return Sibling::Nothing;
+        return None;
     }
     let parent = parent_at(roll, j);
     let before = j - 1;
     if parent == before {
-        return Sibling::Nothing;
+        return None;
     }
-    Sibling::At(climb(roll, before, parent))
+    Some(climb(roll, before, parent))
 }

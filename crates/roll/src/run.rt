@@ -6,7 +6,6 @@ ghost use Rattle.roll.specs.Promise.{RunGiven};
 
 use crate::node::{count, parent_at};
 use crate::scan::check_roll;
-use reply::Reply;
 
 // Where the run of record k ends: at the first record behind k whose parent comes before k, or behind the last record.
 pub fn end_of(roll: &[u8], k: usize) -> usize
@@ -15,14 +14,12 @@ pub fn end_of(roll: &[u8], k: usize) -> usize
     ensures { RunEnds (nodes roll.now) k result }
 {
     let n = count(roll);
-    let mut j = k + 1;
-    while j < n {
+    for j in k + 1..n {
         if parent_at(roll, j) < k {
             return j;
         }
-        j += 1;
     }
-    j
+    n
 }
 
 // Run of a record: the part of the table that holds record k and all its descendants, from k's first byte on. For a bad
@@ -30,8 +27,7 @@ pub fn end_of(roll: &[u8], k: usize) -> usize
 pub fn run_of(roll: &[u8], k: usize) -> &[u8]
     ensures { RunGiven roll.entry k result }
 {
-    let reply = check_roll(roll);
-    let Reply::Count(n) = reply else {
+    let Ok(n) = check_roll(roll) else {
         return &roll[..0];
     };
     if n <= k {

@@ -72,7 +72,7 @@ fn check_node(roll: &[u8], i: usize) -> Reply
     if !parent {
         return refuse(Reason::ParentField, i);
     }
-    Reply::Count(1)
+    Ok(1)
 }
 
 // Check a roll: its number of nodes, or 2, or the fault of the lowest faulty record.
@@ -83,13 +83,8 @@ pub fn check_roll(roll: &[u8]) -> Reply
         return refuse(Reason::RollLength, 0);
     }
     let n = count(roll);
-    let mut i = 0;
-    while i < n {
-        let reply = check_node(roll, i);
-        let Reply::Count(_) = reply else {
-            return reply;
-        };
-        i += 1;
+    for i in 0..n {
+        check_node(roll, i)?;
     }
-    Reply::Count(n)
+    Ok(n)
 }

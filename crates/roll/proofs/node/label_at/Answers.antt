@@ -23,4 +23,4 @@ bounds-roll-i c = omega (arith, inside (goal.at.bounds-roll-i c).Else-count-i)
 pub returns : goal.returns
 returns c =
     let a = c.args in
-    c.wide.ensures.0 ∙ sym (label_byte a.roll.now a.i (omega arith))
+    c.from.ensures ∙ sym (label_byte a.roll.now a.i (omega arith))

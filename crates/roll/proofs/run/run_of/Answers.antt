@@ -10,20 +10,20 @@ use Rattle.roll.proofs.Records.{record_inside}
 use Rattle.roll.proofs.Checking.{roll_right, not_roll}
 use Rattle.roll.proofs.Parts.{run_inside, run_place, empty_given, part_given}
 use Rattle.roll.proofs.run.run_of.Goals as goal
-use Rattle.roll.proofs.run.run_of.Goals.{After-end_of, Else-n-k, In-Count}
+use Rattle.roll.proofs.run.run_of.Goals.{After-end_of, Else-n-k, In-Ok}
 
 -- a table that is not refused is a roll of as many nodes as it is said to have
-counted : (c : In-Count)
+counted : (c : In-Ok)
     → let b = c.args.roll.now in
-    Roll b × (c.in-Count.n ≡ length (nodes b))
+    Roll b × (c.in-Ok.n ≡ length (nodes b))
 counted c =
-    roll_right c.args.roll.now c.in-Count.is c.check_roll-reply.ensures
+    roll_right c.args.roll.now c.in-Ok.is c.check_roll.ensures
 
 -- where the test lets on, there is a record k
 within : (c : Else-n-k) → let a = c.args in a.k < length (nodes a.roll.now)
 within c =
     let counted : (let b = c.args.roll.now in
-    Roll b × (c.in-Count.n ≡ length (nodes b))) = roll_right c.args.roll.now c.in-Count.is c.check_roll-reply.ensures in
+    Roll b × (c.in-Ok.n ≡ length (nodes b))) = roll_right c.args.roll.now c.in-Ok.is c.check_roll.ensures in
     omega (arith, counted.1)
 
 -- the bytes of the run lie in the table
@@ -32,19 +32,19 @@ inside : (c : After-end_of)
     (a.k < c.end_of.result) × (4 * c.end_of.result ≤ length a.roll.now)
 inside c =
     let counted : (let b = c.args.roll.now in
-    Roll b × (c.in-Count.n ≡ length (nodes b))) = roll_right c.args.roll.now c.in-Count.is c.check_roll-reply.ensures in
+    Roll b × (c.in-Ok.n ≡ length (nodes b))) = roll_right c.args.roll.now c.in-Ok.is c.check_roll.ensures in
     let within : (let a = c.args in a.k < length (nodes a.roll.now)) = let counted : (let b = c.args.roll.now in
-    Roll b × (c.in-Count.n ≡ length (nodes b))) = roll_right c.args.roll.now c.in-Count.is c.check_roll-reply.ensures in
+    Roll b × (c.in-Ok.n ≡ length (nodes b))) = roll_right c.args.roll.now c.in-Ok.is c.check_roll.ensures in
     omega (arith, counted.1) in
     run_inside counted.0 within c.end_of.ensures
 
 pub returns-in_default : goal.returns-in_default
 returns-in_default c =
-    let refused = not_roll c.args.roll.now c.in_default.is c.check_roll-reply.ensures in
+    let refused = not_roll c.args.roll.now c.in_default.is c.check_roll.ensures in
     empty_given (bad_roll refused) refl refl
 
 pub returns-then-n-k : goal.returns-then-n-k
-returns-then-n-k c = empty_given (no_record (omega (arith, (counted (goal.at.returns-then-n-k c).In-Count).1))) refl refl
+returns-then-n-k c = empty_given (no_record (omega (arith, (counted (goal.at.returns-then-n-k c).In-Ok).1))) refl refl
 
 pub overflow_mul-start : goal.overflow_mul-start
 overflow_mul-start c =
@@ -52,7 +52,7 @@ overflow_mul-start c =
     omega (arith, record_inside a.roll.now a.k (within c))
 
 pub end_of-requires : goal.end_of-requires
-end_of-requires c = record { roll = (counted (goal.at.end_of-requires c).In-Count).0; k_in_bounds = within c }
+end_of-requires c = record { roll = (counted (goal.at.end_of-requires c).In-Ok).0; k_in_bounds = within c }
 
 pub overflow_sub-end : goal.overflow_sub-end
 overflow_sub-end c = omega (arith, inside c)
@@ -68,4 +68,4 @@ slice_bounds-result-end-2 c = omega (arith, inside c)
 
 pub returns : goal.returns
 returns c =
-    part_given (omega arith) refl refl (run_place (counted (goal.at.returns c).In-Count).0 (within (goal.at.returns c).Else-n-k) c.end_of.ensures)
+    part_given (omega arith) refl refl (run_place (counted (goal.at.returns c).In-Ok).0 (within (goal.at.returns c).Else-n-k) c.end_of.ensures)
