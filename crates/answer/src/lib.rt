@@ -27,7 +27,7 @@ pub fn give(set: [u64; 64], room: &mut [u8]) -> Reply
 {
     let map = bytes(set);
     room[..map.len()].copy_from_slice(&map);
-    Reply::Count(count(set))
+    Ok(count(set))
 }
 
 // What the query reaches from a node, where it is known of one filter, that of entry `known`, at which nodes it holds.
@@ -60,10 +60,7 @@ pub fn reached(
 pub fn answer_on_roll(roll: &[u8], query: &[u8], room: &mut [u8]) -> Reply
     ensures { Answered roll.now query.now room.old (said result) room.new }
 {
-    let ready = ready_to_answer(room.len(), roll, query);
-    let Reply::Count(_) = ready else {
-        return ready;
-    };
+    ready_to_answer(room.len(), roll, query)?;
     let none = empty();
     let set = reached(roll, query, 0, entries_of(query), &none);
     give(set, room)

@@ -45,7 +45,7 @@ fn check_record(annotation: &[u8], filters: &[u8], i: usize) -> Reply
     if !above {
         return refuse(Reason::PairOrder, i);
     }
-    Reply::Count(1)
+    Ok(1)
 }
 
 // Checks an annotation against its filter table: its number of records, or the first fault and its place.
@@ -56,13 +56,8 @@ pub fn check_annotation(annotation: &[u8], filters: &[u8]) -> Reply
         return refuse(Reason::AnnotationLength, 0);
     }
     let n = count(annotation);
-    let mut i = 0;
-    while i < n {
-        let reply = check_record(annotation, filters, i);
-        let Reply::Count(_) = reply else {
-            return reply;
-        };
-        i += 1;
+    for i in 0..n {
+        check_record(annotation, filters, i)?;
     }
-    Reply::Count(n)
+    Ok(n)
 }

@@ -16,10 +16,7 @@ use tables::{check_filters, check_query};
 fn check_annotated(annotation: &[u8], filters: &[u8]) -> Reply
     ensures { AnnotatedChecked annotation.now filters.now (said result) }
 {
-    let entries = check_filters(filters);
-    let Reply::Count(_) = entries else {
-        return entries;
-    };
+    check_filters(filters)?;
     check_annotation(annotation, filters)
 }
 
@@ -27,24 +24,8 @@ fn check_annotated(annotation: &[u8], filters: &[u8]) -> Reply
 fn check_asked(annotation: &[u8], filters: &[u8], query: &[u8]) -> Reply
     ensures { AskedChecked annotation.now filters.now query.now (said result) }
 {
-    let records = check_annotated(annotation, filters);
-    let Reply::Count(_) = records else {
-        return records;
-    };
+    check_annotated(annotation, filters)?;
     check_query(query, CURATOR_ENTRIES, CURATOR_HEIGHT)
-}
-
-// What is said of two inputs in turn: the first refusal, or where there is none the count of the first.
-fn in_turn(first: Reply, rest: Reply) -> Reply
-    ensures { SaidInTurn first rest result }
-{
-    let Reply::Count(_) = first else {
-        return first;
-    };
-    let Reply::Count(_) = rest else {
-        return rest;
-    };
-    first
 }
 
 // Call 3: the number of nodes.
@@ -54,10 +35,9 @@ pub fn ready_to_answer(room: usize, roll: &[u8], query: &[u8]) -> Reply
     if room < BITMAP_ROOM {
         return refuse(Reason::ShortRoom, 0);
     }
-    in_turn(
-        check_roll(roll),
-        check_query(query, ANSWER_ENTRIES, ANSWER_HEIGHT),
-    )
+    let nodes = check_roll(roll)?;
+    check_query(query, ANSWER_ENTRIES, ANSWER_HEIGHT)?;
+    Ok(nodes)
 }
 
 // Call 4: the number of nodes.
@@ -67,7 +47,9 @@ pub fn ready_to_cut(room: usize, roll: &[u8], annotation: &[u8], filters: &[u8])
     if room < roll.len() {
         return refuse(Reason::ShortRoom, 0);
     }
-    in_turn(check_roll(roll), check_annotated(annotation, filters))
+    let nodes = check_roll(roll)?;
+    check_annotated(annotation, filters)?;
+    Ok(nodes)
 }
 
 // Call 5: the number of entries of the query.
@@ -93,5 +75,7 @@ pub fn ready_for_curator(
     if room < BITMAP_ROOM {
         return refuse(Reason::ShortRoom, 0);
     }
-    in_turn(check_roll(roll), check_asked(annotation, filters, query))
+    let nodes = check_roll(roll)?;
+    check_asked(annotation, filters, query)?;
+    Ok(nodes)
 }

@@ -64,29 +64,21 @@ fn check_nodes(roll: &[u8], rules: &[u8], list: &[u8]) -> Reply
     link(roll, &mut links);
     let mut word = [0u8; 4096];
     let n = roll::count(roll);
-    let mut i = 0;
-    while i < n {
+    for i in 0..n {
         if !allowed(
             roll, &links, rules, &named, &counts, i, &mut word, &mut kept,
         ) {
             return refuse(Reason::ChildrenForbidden, i);
         }
-        i += 1;
     }
-    Reply::Count(n)
+    Ok(n)
 }
 
 // Check a roll's content: the roll first, then the rules, then the children of every node. The number of nodes, or the first fault.
 pub fn check_content(roll: &[u8], rules: &[u8], list: &[u8]) -> Reply
     ensures { ContentChecked roll.now rules.now list.now (said result) }
 {
-    let nodes = check_roll(roll);
-    let Reply::Count(_) = nodes else {
-        return nodes;
-    };
-    let ruled = check_rules(rules, list);
-    let Reply::Count(_) = ruled else {
-        return ruled;
-    };
+    check_roll(roll)?;
+    check_rules(rules, list)?;
     check_nodes(roll, rules, list)
 }

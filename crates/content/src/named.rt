@@ -16,10 +16,8 @@ pub(crate) fn rules_by_label(list: &[u8]) -> [u16; 65]
 {
     let mut named = [NONE; 65];
     let n = count(list);
-    let mut k = 0;
-    while k < n {
+    for k in 0..n {
         named[label_at(list, k)] = parent_at(list, k) as u16;
-        k += 1;
     }
     named
 }

@@ -27,10 +27,7 @@ pub fn curators_answer(
 ) -> Reply
     ensures { CuratorAnswered roll.now annotation.now filters.now query.now room.old (said result) room.new }
 {
-    let ready = ready_for_curator(room.len(), roll, annotation, filters, query);
-    let Reply::Count(n) = ready else {
-        return ready;
-    };
+    let n = ready_for_curator(room.len(), roll, annotation, filters, query)?;
     let shown = visible_nodes(roll, annotation, filters);
     let reached = reached_through(roll, annotation, filters, query, &shown);
     let found = positions_of(&shown, &reached, n);

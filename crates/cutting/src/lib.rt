@@ -53,10 +53,8 @@ fn write_view(roll: &[u8], seen: &[u64; 64], room: &mut [u8]) -> usize
     let n = count(roll);
     let mut places = [0u16; 4096];
     let mut written = 0;
-    let mut i = 0;
-    while i < n {
+    for i in 0..n {
         written = pass(roll, seen, i, &mut places, written, room);
-        i += 1;
     }
     written
 }
@@ -65,10 +63,7 @@ fn write_view(roll: &[u8], seen: &[u64; 64], room: &mut [u8]) -> usize
 pub fn cut_view(roll: &[u8], annotation: &[u8], filters: &[u8], room: &mut [u8]) -> Reply
     ensures { ViewCut roll.now annotation.now filters.now room.old (said result) room.new }
 {
-    let ready = ready_to_cut(room.len(), roll, annotation, filters);
-    let Reply::Count(_) = ready else {
-        return ready;
-    };
+    ready_to_cut(room.len(), roll, annotation, filters)?;
     let seen = visible_nodes(roll, annotation, filters);
-    Reply::Count(write_view(roll, &seen, room))
+    Ok(write_view(roll, &seen, room))
 }

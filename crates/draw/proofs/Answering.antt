@@ -5,8 +5,7 @@ use mathlib.Core.Path.{◌≡◌, sym, ap, ◌∙◌, subst}
 use lib.ListN.{length, take, drop, replicate, length-append}
 use lib.Seq.{take_at}
 use Rattle.reply.specs.declared.Refusal.{Refusal}
-use Rattle.reply.specs.declared.Reply.{Reply}
-use Rattle.reply.specs.declared.Reply.TheVariants.{Count, Refused}
+use Rattle.std.specs.Prelude.{Result, Ok, Err}
 use Rattle.reply.specs.Reply.{Said, count, refused, said}
 use Rattle.reply.specs.Bytes.{Bytes}
 use Rattle.reply.specs.Outcome.{done, short, turned_away}
@@ -34,9 +33,9 @@ room = replicate 1536 0
 
 module _ {text : Bytes} where
   -- a text that is read has its table in front of the room
-  pub table_read : {r : Reply} {n : ℕ} {after : Bytes} → r ≡ Count n → TextRead text room (said r) after → TableRead text n after
+  pub table_read : {r : Result ℕ Refusal} {n : ℕ} {after : Bytes} → r ≡ Ok n → TextRead text room (said r) after → TableRead text n after
   unfolding TextRead
-  table_read {n = n} {after} e x = go (subst (λ (r : Reply). TextRead text room (said r) after) e x)
+  table_read {n = n} {after} e x = go (subst (λ (r : Result ℕ Refusal). TextRead text room (said r) after) e x)
     where
       go : TextRead text room (count n) after → TableRead text n after
       go (done _ _ given) =
@@ -60,11 +59,11 @@ module _ {text : Bytes} where
 
   module _ {roll annotation filters map out last : Bytes} {c : ℕ} where
     -- its line is that of the refusal
-    pub refused_line : (r : Reply) {refusal : Refusal} (after : Bytes) → r ≡ Refused refusal → TextRead text room (said r) after
+    pub refused_line : (r : Result ℕ Refusal) {refusal : Refusal} (after : Bytes) → r ≡ Err refusal → TextRead text room (said r) after
         → LineGiven (said r) map out c last → LineWritten (LineFor roll annotation filters text) out c last
     unfolding line_of
-    refused_line (Count n) after no_such x given = cc
-    refused_line (Refused x) after e read given =
+    refused_line (Ok n) after no_such x given = cc
+    refused_line (Err x) after e read given =
         record { line = _; right = text_refused (text_fault after read); count = given.count; written = given.written }
 
     -- the line of any other text is that of the answer to its table

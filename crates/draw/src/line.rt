@@ -10,7 +10,7 @@ use curator::curators_answer;
 use lines::{LONGEST, write_line};
 use memchr::memchr;
 use reader::read_text;
-use reply::{BITMAP_ROOM, Reply, TABLE_ROOM};
+use reply::{BITMAP_ROOM, TABLE_ROOM};
 
 // The line for one query text, in front of `out`. Gives its length.
 fn answer_line(roll: &[u8], view: &[u8], filters: &[u8], text: &[u8], out: &mut [u8]) -> usize
@@ -22,7 +22,7 @@ fn answer_line(roll: &[u8], view: &[u8], filters: &[u8], text: &[u8], out: &mut 
     let mut table = [0u8; TABLE_ROOM];
     let mut map = [0u8; BITMAP_ROOM];
     let read = read_text(text, &mut table);
-    let Reply::Count(n) = read else {
+    let Ok(n) = read else {
         return write_line(read, &map, out);
     };
     let size = 6 * n;

@@ -30,14 +30,13 @@ pub fn tell(reply: Reply, told: &mut usize) -> u64
     ensures { heard result told.new ≡ said reply }
 {
     match reply {
-        Reply::Count(n) => {
+        Ok(n) => {
             *told = n;
             0
         }
-        Reply::Refused(refusal) => {
-            let reason = refusal.reason;
+        Err(refusal) => {
             *told = refusal.place;
-            number_of(reason)
+            number_of(refusal.reason)
         }
     }
 }

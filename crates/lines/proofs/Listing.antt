@@ -10,8 +10,7 @@ use Rattle.reply.specs.Bytes.{Bytes}
 use Rattle.answer.specs.Bitmap.{bit}
 use Rattle.reply.specs.Reply.{Said, count, refused, number, said}
 use Rattle.reply.specs.declared.Refusal.{Refusal}
-use Rattle.reply.specs.declared.Reply.{Reply}
-use Rattle.reply.specs.declared.Reply.TheVariants.{Refused}
+use Rattle.std.specs.Prelude.{Result, Ok, Err}
 use Rattle.lines.specs.Line.{decimal, spaced, positions, line_of, LineGiven, longest}
 use Rattle.lines.specs.Put.{Put, unended, Begun}
 use Rattle.lines.proofs.Putting.{put_none, put_written, put_length, put_then}
@@ -81,7 +80,7 @@ pub put_numbers : {letter : ℕ} (ms ns : List ℕ) {b first after : Bytes} {mid
 put_numbers ms ns fits x y = rw (spaced_append ms ns) (put_then fits x y)
 
 -- of a reply that refuses, whose bitmap is not written
-pub refused_begun : {r : Reply} {x : Refusal} {n : ℕ} {map b after : Bytes} {to : ℕ} → r ≡ Refused x → n ≡ number x.reason
+pub refused_begun : {r : Result ℕ Refusal} {x : Refusal} {n : ℕ} {map b after : Bytes} {to : ℕ} → r ≡ Err x → n ≡ number x.reason
     → Begun (refused n x.place) [] b to after → Begun (said r) map b to after
 unfolding unended
 refused_begun {x = x} {map = map} {b} {after} {to} e f begun =

@@ -80,8 +80,8 @@ fn put_reply(reply: Reply, map: &[u8; 512], out: &mut [u8]) -> usize
     ensures { Begun (said reply) map.now out.old result out.new }
 {
     match reply {
-        Reply::Count(n) => put_answer(n, map, out),
-        Reply::Refused(refusal) => {
+        Ok(n) => put_answer(n, map, out),
+        Err(refusal) => {
             let reason = refusal.reason;
             let place = refusal.place;
             put_refusal(number_of(reason) as usize, place, out)

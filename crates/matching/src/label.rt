@@ -5,14 +5,13 @@ ghost use Rattle.steps.specs.Added.{Kept};
 ghost use Rattle.rules.specs.Language.{one};
 ghost use Rattle.matching.specs.Spans.{Spans, LabelAt, Used};
 
-use reply::wide;
 
 // Whether the label stands at place p.
 fn stands_at(word: &[u8], label: usize, p: usize) -> bool
     ensures { T result ↔ LabelAt word.now label p }
 {
     if p < word.len() {
-        wide(word[p]) == label
+        usize::from(word[p]) == label
     } else {
         false
     }

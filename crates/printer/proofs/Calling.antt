@@ -7,8 +7,8 @@ use lib.ListN.{length, take, drop, length-take}
 use lib.Seq.{take-length, length-take-le}
 use denote.Enum.Declared.{tag_of}
 use types.Run.{OneOf}
-use Rattle.reply.specs.declared.Reply.{Reply}
-use Rattle.reply.specs.declared.Reply.TheVariants.{Count, Refused}
+use Rattle.std.specs.Prelude.{Result, Ok, Err}
+use Rattle.reply.specs.declared.Refusal.{Refusal}
 use Rattle.reply.specs.Reply.{Said, count, refused, said}
 use Rattle.reply.specs.Bytes.{Bytes}
 use Rattle.reply.specs.Outcome.{first, behind, done, short, turned_away}
@@ -33,11 +33,11 @@ module _ (table before : Bytes) where
   too_short l e = rw e (short l)
 
   -- the table is refused
-  pub refused_table : (r : Reply) → OneOf (1 ∷ []) (tag_of the_reply.the_type r) → QueryChecked curators table (said r)
+  pub refused_table : (r : Result ℕ Refusal) → OneOf (1 ∷ []) (tag_of the_reply.the_type r) → QueryChecked curators table (said r)
       → 1024 ≤ length before → TablePrinted table before (said r) before
   unfolding TablePrinted PrintFault
-  refused_table (Count c) no_such x room = absurd (omega arith)
-  refused_table (Refused f) u x room = turned_away room (first (faulted x))
+  refused_table (Ok c) no_such x room = absurd (omega arith)
+  refused_table (Err f) u x room = turned_away room (first (faulted x))
 
 -- A table that is a query.
 module _ {table : Bytes} (query : Query curators table) where

@@ -21,15 +21,12 @@ pub fn print_query(query: &[u8], room: &mut [u8]) -> Reply
     if room.len() < TEXT_BYTES {
         return refuse(Reason::ShortRoom, 0);
     }
-    let checked = check_query(query, CURATOR_ENTRIES, CURATOR_HEIGHT);
-    let Reply::Count(entries) = checked else {
-        return checked;
-    };
+    let entries = check_query(query, CURATOR_ENTRIES, CURATOR_HEIGHT)?;
     let mut text = [0u8; TEXT_BYTES];
     let size = hold(query, entries - 1, 0, &mut text, 0);
     if size > TEXT_BYTES {
         return refuse(Reason::TextTooLong, 0);
     }
     room[..size].copy_from_slice(&text[..size]);
-    Reply::Count(size)
+    Ok(size)
 }

@@ -4,7 +4,7 @@ ghost use Rattle.shortest.proofs.Shown.{label_shown};
 ghost use Rattle.printer.specs.Printing.{Goes, symbols, ranks, opening_for, closing_for};
 
 use crate::writing::put;
-use reply::{TEXT_BYTES, wide};
+use reply::{TEXT_BYTES};
 
 // The byte that each kind is written with, if it is one byte.
 const SYMBOLS: [u8; 23] = [
@@ -50,7 +50,7 @@ pub(crate) fn symbol(kind: usize) -> u8
 pub(crate) fn rank(kind: usize) -> usize
     ensures { result ≡ get_or ranks kind 0 }
 {
-    if kind < 23 { wide(RANKS[kind]) } else { 0 }
+    if kind < 23 { usize::from(RANKS[kind]) } else { 0 }
 }
 
 // The brackets around what a kind makes: ( and ) around a path, { and } around a filter.

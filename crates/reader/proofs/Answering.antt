@@ -7,8 +7,8 @@ use lib.ListN.{length, take, drop}
 use lib.Seq.{take-length}
 use denote.Enum.Declared.{tag_of}
 use types.Run.{OneOf}
-use Rattle.reply.specs.declared.Reply.{Reply}
-use Rattle.reply.specs.declared.Reply.TheVariants.{Count, Refused}
+use Rattle.std.specs.Prelude.{Result, Ok, Err}
+use Rattle.reply.specs.declared.Refusal.{Refusal}
 use Rattle.reply.specs.Reply.{Said, number, count, refused, said}
 use Rattle.reply.specs.Bytes.{Bytes}
 use Rattle.reply.specs.Outcome.{done, short, turned_away}
@@ -34,12 +34,12 @@ use Rattle.reader.proofs.Parsing.{reached_clear}
 -- The table is checked: by what the check replies, it is written out or refused.
 module _ {table : Bytes} (before : Bytes) where
   -- there is room for it
-  pub room_enough : {c : ℕ} {r : Reply} → r ≡ Count c → QueryChecked curators table (said r) → 1536 ≤ length before
+  pub room_enough : {c : ℕ} {r : Result ℕ Refusal} → r ≡ Ok c → QueryChecked curators table (said r) → 1536 ≤ length before
       → length table ≤ length before
   room_enough e x room = omega (arith, (right_counted e x).0.size.size.most)
 
   -- it is written
-  pub written_out : {c : ℕ} {r : Reply} {after : Bytes} → r ≡ Count c → QueryChecked curators table (said r) → 1536 ≤ length before
+  pub written_out : {c : ℕ} {r : Result ℕ Refusal} {after : Bytes} → r ≡ Ok c → QueryChecked curators table (said r) → 1536 ≤ length before
       → after ≡ take (length table) table ++ drop (length table) before → WrittenOut table before (count c) after
   written_out e x room copied =
       let (query, size) = right_counted e x in
@@ -52,10 +52,10 @@ module _ {table : Bytes} (before : Bytes) where
       )
 
   -- a check that refuses says that it is no query
-  pub refused_out : (r : Reply) {s : Said} → OneOf (1 ∷ []) (tag_of the_reply.the_type r) → QueryChecked curators table (said r)
+  pub refused_out : (r : Result ℕ Refusal) {s : Said} → OneOf (1 ∷ []) (tag_of the_reply.the_type r) → QueryChecked curators table (said r)
       → s ≡ refused 16 0 → WrittenOut table before s before
-  refused_out (Count c) no_such x e = absurd (omega arith)
-  refused_out (Refused f) u x e =
+  refused_out (Ok c) no_such x e = absurd (omega arith)
+  refused_out (Err f) u x e =
       let no_query : ¬ Query curators table = query_wrong curators table (number f.reason) f.place (faulted x) in
       rw e (turned_away zero-le (refl, refl, no_query))
 

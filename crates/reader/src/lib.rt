@@ -45,12 +45,11 @@ fn write_out(table: &[u8], room: &mut [u8]) -> Reply
     requires { 1536 ≤ length room.old }
     ensures { WrittenOut table.now room.old (said result) room.new }
 {
-    let checked = check_query(table, CURATOR_ENTRIES, CURATOR_HEIGHT);
-    let Reply::Count(count) = checked else {
+    let Ok(count) = check_query(table, CURATOR_ENTRIES, CURATOR_HEIGHT) else {
         return refuse(Reason::TableTooLarge, 0);
     };
     room[..table.len()].copy_from_slice(table);
-    Reply::Count(count)
+    Ok(count)
 }
 
 // Where reading comes to: the end of the text, or the place where it stops.

@@ -42,10 +42,6 @@ pub fn visible_entry(annotation: &[u8], filters: &[u8]) -> usize
 pub fn rewrite(annotation: &[u8], filters: &[u8], query: &[u8], room: &mut [u8]) -> Reply
     ensures { RewriteGiven annotation.now filters.now query.now room.old (said result) room.new }
 {
-    let ready = ready_to_rewrite(room.len(), annotation, filters, query);
-    let Reply::Count(_) = ready else {
-        return ready;
-    };
-    let entries = write_rewritten(annotation, filters, query, room);
-    Reply::Count(entries)
+    ready_to_rewrite(room.len(), annotation, filters, query)?;
+    Ok(write_rewritten(annotation, filters, query, room))
 }

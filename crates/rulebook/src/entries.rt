@@ -53,8 +53,7 @@ pub(crate) fn check_entries(rules: &[u8]) -> Reply
 {
     let n = count(rules);
     let mut heights = [0u16; RULE_ENTRIES];
-    let mut i = 0;
-    while i < n {
+    for i in 0..n {
         if !entry_right(rules, i) {
             return refuse(Reason::RulesMalformed, i);
         }
@@ -63,7 +62,6 @@ pub(crate) fn check_entries(rules: &[u8]) -> Reply
             return refuse(Reason::RulesMalformed, i);
         }
         heights[i] = below + 1;
-        i += 1;
     }
-    Reply::Count(n)
+    Ok(n)
 }

@@ -18,10 +18,6 @@ pub fn check_rules(rules: &[u8], list: &[u8]) -> Reply
     if !sized {
         return refuse(Reason::RulesMalformed, 0);
     }
-    let entries = entries::check_entries(rules);
-    let records = list::check_list(rules, list);
-    let Reply::Count(_) = entries else {
-        return entries;
-    };
-    records
+    entries::check_entries(rules)?;
+    list::check_list(rules, list)
 }

@@ -46,12 +46,10 @@ pub(crate) fn check_list(rules: &[u8], list: &[u8]) -> Reply
     ensures { ListChecked rules.now list.now (said result) }
 {
     let n = count(list);
-    let mut k = 0;
-    while k < n {
+    for k in 0..n {
         if !record_fits(rules, list, k) {
             return refuse(Reason::RulesMalformed, k);
         }
-        k += 1;
     }
-    Reply::Count(n)
+    Ok(n)
 }

@@ -5,11 +5,10 @@ use mathlib.Core.Path.{◌≡◌, ap, subst}
 use mathlib.Core.Logic.{◌↔◌}
 use lib.ListN.{length}
 use Rattle.reply.specs.declared.Refusal.{Refusal}
-use Rattle.reply.specs.declared.Reply.{Reply}
-use Rattle.reply.specs.declared.Reply.TheVariants.{Count, Refused}
+use Rattle.std.specs.Prelude.{Result, Ok, Err}
 use Rattle.reply.specs.Reply.{Said, count, refused, said}
 use Rattle.reply.specs.Bytes.{Bytes, Whole}
-use Rattle.reply.proofs.Checking.{passes, fails, counted, faulted}
+use Rattle.reply.proofs.Checking.{passes, fails, counted, faulted, passed_up}
 use Rattle.query.specs.Kind.{path}
 use Rattle.query.specs.Table.{entries, row_at, HasSort}
 use Rattle.query.specs.Fault.{Limits, filters, EntryFits, QueryLength, last, QueryFault, no_path, FilterFault}
@@ -26,12 +25,12 @@ entries_within {b = b} whole = omega (arith, entries_length b, whole.most)
 pub query_length : {limit : Limits} {b : Bytes} → ¬ QueryLength limit b → QueryChecked limit b (refused 12 0)
 query_length wrong = fails (QueryFault.bad_length wrong)
 
-module _ {limit : Limits} {b : Bytes} (size : QueryLength limit b) (reply : Reply) (walked : EntriesChecked limit b (said reply)) where
+module _ {limit : Limits} {b : Bytes} (size : QueryLength limit b) (reply : Result ℕ Refusal) (walked : EntriesChecked limit b (said reply)) where
   -- 8, 9: what the walk refuses
-  pub query_entry : (r : Refusal) → reply ≡ Refused r → QueryChecked limit b (said reply)
-  query_entry r e = rw e (fails (QueryFault.bad_entry size (faulted (rw e at walked))))
+  pub query_entry : {r : Refusal} {up : Result ℕ Refusal} → reply ≡ Err r → up ≡ Err r → QueryChecked limit b (said up)
+  query_entry e f = passed_up (λ n p. QueryFault.bad_entry size) e f walked
 
-  module _ (n : ℕ) (e : reply ≡ Count n) where
+  module _ (n : ℕ) (e : reply ≡ Ok n) where
     -- every entry fits, and the count is the number of entries
     all_fit : ((i : ℕ) → i < length (entries b) → EntryFits limit b i) × (n ≡ length (entries b))
     all_fit = counted (rw e at walked)

@@ -19,8 +19,7 @@ fn check_entries(table: &[u8], height: u16) -> Reply
 {
     let n = count(table);
     let mut heights = [0u16; ANSWER_ENTRIES];
-    let mut i = 0;
-    while i < n {
+    for i in 0..n {
         if !entry_right(table, i) {
             return refuse(Reason::EntryMalformed, i);
         }
@@ -29,9 +28,8 @@ fn check_entries(table: &[u8], height: u16) -> Reply
             return refuse(Reason::EntryHeight, i);
         }
         heights[i] = below + 1;
-        i += 1;
     }
-    Reply::Count(n)
+    Ok(n)
 }
 
 // Whether the table is whole entries, and at most as many as given.
@@ -52,13 +50,10 @@ pub fn check_query(table: &[u8], entries: usize, height: u16) -> Reply
     if !fits {
         return refuse(Reason::QueryTable, 0);
     }
-    let reply = check_entries(table, height);
-    let Reply::Count(n) = reply else {
-        return reply;
-    };
+    let n = check_entries(table, height)?;
     let last = n - 1;
     if sort_at(table, last) == PATH {
-        return reply;
+        return Ok(n);
     }
     refuse(Reason::QueryTable, last)
 }

@@ -7,7 +7,7 @@ ghost use Rattle.tables.specs.Fields.{Fields};
 ghost use Rattle.tables.specs.Laid.{laid, fields};
 
 use crate::kinds::sort_of;
-use reply::{put_two_bytes, two_bytes, wide};
+use reply::{put_two_bytes, two_bytes};
 
 #[derive(Clone, Copy)]
 pub struct Entry {
@@ -46,8 +46,8 @@ pub fn entry_at(table: &[u8], i: usize) -> Entry
     }
     let at = 6 * i;
     Entry {
-        kind: wide(table[at]),
-        label: wide(table[at + 1]),
+        kind: usize::from(table[at]),
+        label: usize::from(table[at + 1]),
         left: number_at(table, at + 2),
         right: number_at(table, at + 4),
     }

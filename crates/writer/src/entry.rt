@@ -4,7 +4,6 @@ ghost use Rattle.written.specs.Written.{moved, raise};
 ghost use Rattle.tables.specs.Laid.{laid, fields};
 ghost use Rattle.writer.specs.Laid.{Room, Short};
 
-use reply::wide;
 use tables::{NONE, put, shape_of};
 
 // An operand's number, raised by a distance where the field is used.
@@ -33,7 +32,7 @@ pub fn put_raised(
     requires short { (Short left × Short right) × Short distance }
     ensures { out.new ≡ laid out.old at (raise distance (fields kind label left right) ∷ []) }
 {
-    let shape = shape_of(wide(kind));
+    let shape = shape_of(usize::from(kind));
     let new_left = raised(shape.left, left, distance);
     let new_right = raised(shape.right, right, distance);
     put(out, at, kind, label, new_left, new_right);

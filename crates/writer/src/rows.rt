@@ -5,7 +5,6 @@ ghost use Rattle.tables.specs.Laid.{laid};
 ghost use Rattle.writer.specs.Laid.{Room, Short};
 
 use crate::entry::put_raised;
-use reply::wide;
 use tables::{CHILD, EITHER, LEADS, NEXT, NOT, OR, PARENT, PREVIOUS, STAR, STAY, THEN};
 
 // A kind and its operands.
@@ -87,7 +86,7 @@ pub fn put_row(out: &mut [u8], at: usize, k: usize, distance: usize)
     ensures { out.new ≡ laid out.old at (raise distance (axis_row k) ∷ []) }
 {
     let row = row_at(k);
-    put_raised(out, at, row.0, 0, wide(row.1), wide(row.2), distance);
+    put_raised(out, at, row.0, 0, usize::from(row.1), usize::from(row.2), distance);
 }
 
 // Writes all rows, from entry `at` of the part on.

@@ -14,7 +14,7 @@ ordered : (c : Else-not-entry_right)
 ordered c = test_passed c.entry_right.result c.entry_right.ensures c.if-not-entry_right.false
 
 pub loop-i-init : goal.loop-i-init
-loop-i-init c = record { within = omega arith; counted = c.count-n.ensures; room = refl; walked = walk_starts _ _ _ }
+loop-i-init c = record { counted = c.count-n.ensures; room = refl; walked = walk_starts _ _ _ }
 
 pub returns-then-not-entry_right : goal.returns-then-not-entry_right
 returns-then-not-entry_right c limit same =
@@ -31,7 +31,6 @@ pub loop-i-preserved : goal.loop-i-preserved
 loop-i-preserved c =
     let here = c.loop-i.invariant in
     record {
-      within = omega arith;
       counted = here.counted;
       room = simp length-set here.room;
       walked = walk_on here.walked (omega arith) (ordered (goal.at.loop-i-preserved c).Else-not-entry_right) c.height_below-below.ensures (omega arith) (omega arith);

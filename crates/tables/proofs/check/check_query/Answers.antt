@@ -7,6 +7,7 @@ use mathlib.Core.Bool.{◌&&◌}
 use lib.Dec.{T, ltb}
 use lib.ListN.{length}
 use Rattle.reply.specs.Reply.{said}
+use Rattle.reply.proofs.Checking.{met}
 use Rattle.reply.specs.Bytes.{Whole}
 use Rattle.tree.proofs.Tests.{Decides, test_passed, test_failed}
 use Rattle.query.specs.Fault.{Limits, QueryLength}
@@ -14,7 +15,7 @@ use Rattle.tables.specs.Promise.{EntriesChecked}
 use Rattle.tables.proofs.Deciding.{length_test}
 use Rattle.tables.proofs.Outcomes.{entries_within, query_length, query_entry, query_some, query_path, query_no_path}
 use Rattle.tables.proofs.check.check_query.Goals as goal
-use Rattle.tables.proofs.check.check_query.Goals.{After-check_entries-reply, After-whole, Else-not-fits}
+use Rattle.tables.proofs.check.check_query.Goals.{After-check_entries, After-whole, Else-not-fits}
 
 fits_exact : (c : After-whole) → T (ltb 0 (length c.args.table.now) && c.whole.result) ↔ QueryLength (let it : Limits = record { entries = c.args.entries; height = c.args.height } in it) c.args.table.now
 fits_exact c =
@@ -27,30 +28,30 @@ size c =
     (length_test (let it : Limits = record { entries = c.args.entries; height = c.args.height } in it) c.args.table.now whole).exact in
     test_passed (ltb 0 (length c.args.table.now) && c.whole.result) fits_exact c.if-not-fits.false
 
-walked : (c : After-check_entries-reply) → EntriesChecked (let it : Limits = record { entries = c.args.entries; height = c.args.height } in it) c.args.table.now (said c.check_entries-reply.result)
-walked c = c.check_entries-reply.ensures (let it : Limits = record { entries = c.args.entries; height = c.args.height } in it) refl
+walked : (c : After-check_entries) → EntriesChecked (let it : Limits = record { entries = c.args.entries; height = c.args.height } in it) c.args.table.now (said c.check_entries.result)
+walked c = c.check_entries.ensures (let it : Limits = record { entries = c.args.entries; height = c.args.height } in it) refl
 
 pub returns-then-not-fits : goal.returns-then-not-fits
 returns-then-not-fits c =
     rw c.refuse.ensures (query_length (test_failed (ltb 0 (length c.args.table.now) && c.whole.result) (fits_exact (goal.at.returns-then-not-fits c).After-whole) c.if-not-fits.true))
 
-pub check_entries-reply-requires : goal.check_entries-reply-requires
-check_entries-reply-requires c = omega (arith, entries_within (size c).size)
+pub check_entries-requires : goal.check_entries-requires
+check_entries-requires c = omega (arith, entries_within (size c).size)
 
-pub returns-in_default : goal.returns-in_default
-returns-in_default c =
-    query_entry (size (goal.at.returns-in_default c).Else-not-fits) c.check_entries-reply.result (walked (goal.at.returns-in_default c).After-check_entries-reply) c.in_default.field-0 c.in_default.is
+pub returns-in_err-n : goal.returns-in_err-n
+returns-in_err-n c =
+    query_entry (size (goal.at.returns-in_err-n c).Else-not-fits) c.check_entries.result (walked (goal.at.returns-in_err-n c).After-check_entries) c.in_err-n.was (met c.from_residual.ensures.1)
 
 pub overflow_sub-last : goal.overflow_sub-last
 overflow_sub-last c =
-    query_some (size (goal.at.overflow_sub-last c).Else-not-fits) c.check_entries-reply.result (walked (goal.at.overflow_sub-last c).After-check_entries-reply) c.in-Count.n c.in-Count.is
+    query_some (size (goal.at.overflow_sub-last c).Else-not-fits) c.check_entries.result (walked (goal.at.overflow_sub-last c).After-check_entries) c.in_ok-n.n c.in_ok-n.was
 
 pub returns-then-sort_at-eq-PATH : goal.returns-then-sort_at-eq-PATH
 returns-then-sort_at-eq-PATH c =
-    query_path (size (goal.at.returns-then-sort_at-eq-PATH c).Else-not-fits) c.check_entries-reply.result (walked (goal.at.returns-then-sort_at-eq-PATH c).After-check_entries-reply) c.in-Count.n c.in-Count.is
+    query_path (size (goal.at.returns-then-sort_at-eq-PATH c).Else-not-fits) c.check_entries.result (walked (goal.at.returns-then-sort_at-eq-PATH c).After-check_entries) c.in_ok-n.n c.in_ok-n.was
     (sym c.sort_at.ensures ∙ c.if-sort_at-eq-PATH.true)
 
 pub returns : goal.returns
 returns c =
-    rw c.refuse-2.ensures (query_no_path (size (goal.at.returns c).Else-not-fits) c.check_entries-reply.result (walked (goal.at.returns c).After-check_entries-reply) c.in-Count.n c.in-Count.is
+    rw c.refuse-2.ensures (query_no_path (size (goal.at.returns c).Else-not-fits) c.check_entries.result (walked (goal.at.returns c).After-check_entries) c.in_ok-n.n c.in_ok-n.was
     (λ e. c.if-sort_at-eq-PATH.false (c.sort_at.ensures ∙ e)))

@@ -9,5 +9,5 @@ returns-then-table-i c = fields_none c.args.table.now c.args.i (search rules)
 pub returns : goal.returns
 returns c =
     let a = c.args in
-    fields_read a.table.now a.i _ (search rules) c.wide.ensures.0 c.wide-2.ensures.0
+    fields_read a.table.now a.i _ (search rules) c.from.ensures c.from-2.ensures
     c.number_at.ensures c.number_at-2.ensures
