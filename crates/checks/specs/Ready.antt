@@ -1,7 +1,5 @@
 -- The checks of a call that takes several inputs, in 01's "Order": the room, then each input in turn.
-use Rattle.std.specs.Prelude.{ℕ, ◌≤◌, ◌<◌, ◌≡◌, length}
-use Rattle.std.specs.Prelude.{Result, Ok, Err}
-use Rattle.reply.specs.declared.Refusal.{Refusal}
+use Rattle.std.specs.Prelude.{ℕ, ◌≤◌, ◌<◌, length}
 use Rattle.reply.specs.Reply.{Said}
 use Rattle.reply.specs.Bytes.{Bytes}
 use Rattle.reply.specs.Outcome.{InTurn, Checked}
@@ -9,16 +7,6 @@ use Rattle.roll.specs.Roll.{nodes, Roll, RollFault}
 use Rattle.query.specs.Table.{entries}
 use Rattle.query.specs.Fault.{curators, answered, Query, QueryFault}
 use Rattle.view.specs.Promise.{Annotated, AnnotatedFault}
-
--- Of two replies in turn: the first refusal, or where there is none the count of the first.
-abbrev pub in_turn : Result ℕ Refusal → Result ℕ Refusal → Result ℕ Refusal
-in_turn (Err x) rest = Err x
-in_turn (Ok c) (Err x) = Err x
-in_turn (Ok c) (Ok d) = Ok c
-
--- r is what is said of the two
-pub record SaidInTurn (first rest r : Result ℕ Refusal) : Type 0 where
-  pub same : r ≡ in_turn first rest
 
 -- 1, "the output is shorter than the room named": a call must be lent `room` bytes, and is lent `given`.
 pub data Short (room given : ℕ) : ℕ → ℕ → Type 0 where

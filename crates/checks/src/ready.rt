@@ -2,7 +2,7 @@
 // `room` is the length of the lent output.
 ghost use Rattle.reply.specs.Reply.{said};
 ghost use Rattle.checks.specs.Checks.{AnnotatedChecked, AskedChecked};
-ghost use Rattle.checks.specs.Ready.{SaidInTurn, ReadyToAnswer, ReadyToCut, ReadyToRewrite, ReadyForCurator};
+ghost use Rattle.checks.specs.Ready.{ReadyToAnswer, ReadyToCut, ReadyToRewrite, ReadyForCurator};
 
 use crate::check::check_annotation;
 use reply::{

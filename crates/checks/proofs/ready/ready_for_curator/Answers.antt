@@ -1,14 +1,27 @@
 -- `checks::ready::ready_for_curator` checks in 01's order: the room, then the roll, and behind it filter table, annotation and query.
+use Rattle.reply.proofs.Checking.{met, right_of}
 use Rattle.roll.specs.Promise.{RollChecked}
 use Rattle.checks.specs.Ready.{ReadyForCurator}
-use Rattle.checks.proofs.Turns.{short_room, both_ready}
+use Rattle.checks.proofs.Turns.{short_room, checked_ready, first_refused, rest_refused, both_counted}
 use Rattle.checks.proofs.ready.ready_for_curator.Goals as goal
 
 pub returns-then-room-lt-BITMAP_ROOM : goal.returns-then-room-lt-BITMAP_ROOM
 unfolding ReadyForCurator
 returns-then-room-lt-BITMAP_ROOM c = short_room c.if-room-lt-BITMAP_ROOM.true c.refuse.ensures
 
+pub returns-in_err-nodes : goal.returns-in_err-nodes
+unfolding ReadyForCurator RollChecked
+returns-in_err-nodes c =
+    checked_ready c.if-room-lt-BITMAP_ROOM.false (first_refused c.in_err-nodes.was (met c.from_residual.ensures.1) c.check_roll.ensures)
+
+pub returns-in_err-check_asked : goal.returns-in_err-check_asked
+unfolding ReadyForCurator RollChecked
+returns-in_err-check_asked c =
+    let roll = right_of c.in_ok-nodes.was c.check_roll.ensures in
+    checked_ready c.if-room-lt-BITMAP_ROOM.false
+    (rest_refused roll c.in_err-check_asked.was (met c.from_residual-in_err-check_asked.ensures.1) c.check_asked.ensures)
+
 pub returns : goal.returns
 unfolding ReadyForCurator RollChecked
 returns c =
-    both_ready c.if-room-lt-BITMAP_ROOM.false c.check_roll.ensures c.check_asked.ensures c.in_turn.ensures
+    both_counted c.if-room-lt-BITMAP_ROOM.false c.in_ok-nodes.was c.check_roll.ensures c.in_ok-check_asked.was c.check_asked.ensures
