@@ -7,7 +7,7 @@ ghost use Rattle.std.specs.Prelude.{◌≡◌, replicate};
 ghost use Rattle.roll.specs.Roll.{nodes, Roll};
 ghost use Rattle.links.specs.Links.{Siblings};
 
-use roll::{Sibling, count, previous_of};
+use roll::{count, previous_of};
 
 // Where there is no sibling.
 pub const NONE: u16 = 65535;
@@ -22,7 +22,7 @@ pub fn link(roll: &[u8], links: &mut [u16; 8192])
     let mut j = 0;
     while j < n {
         let before = previous_of(roll, j);
-        if let Sibling::At(i) = before {
+        if let Some(i) = before {
             links[4096 + j] = i as u16;
             links[i] = j as u16;
         }

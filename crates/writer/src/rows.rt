@@ -86,7 +86,15 @@ pub fn put_row(out: &mut [u8], at: usize, k: usize, distance: usize)
     ensures { out.new ≡ laid out.old at (raise distance (axis_row k) ∷ []) }
 {
     let row = row_at(k);
-    put_raised(out, at, row.0, 0, usize::from(row.1), usize::from(row.2), distance);
+    put_raised(
+        out,
+        at,
+        row.0,
+        0,
+        usize::from(row.1),
+        usize::from(row.2),
+        distance,
+    );
 }
 
 // Writes all rows, from entry `at` of the part on.

@@ -1,6 +1,6 @@
 -- `write_view`. The loop's invariant: the view of the records passed stands in front of the room, and behind it the room
--- is as before. The measure is the number of records that are left.
-use Prim.Native.Nat.{◌-◌, ◌*◌, ◌≤◌}
+-- is as before.
+use Prim.Native.Nat.{◌*◌}
 use mathlib.Core.Path.{◌≡◌}
 use lib.ListN.{length, drop}
 use Rattle.roll.specs.Roll.{nodes}
@@ -10,8 +10,5 @@ use Rattle.cutting.proofs.write_view.Given as goal
 
 abbrev pub invariant-loop-i : goal.invariant-loop-i
 invariant-loop-i l =
-    (l.i ≤ l.n) × (length l.room ≡ length l.initial.room) × Scanned (nodes l.roll) (In l.seen) l.i l.places l.written l.room
+    (length l.room ≡ length l.initial.room) × Scanned (nodes l.roll) (In l.seen) l.i l.places l.written l.room
     × (drop (4 * l.written) l.room ≡ drop (4 * l.written) l.initial.room)
-
-abbrev pub decreases-loop-i : goal.decreases-loop-i
-decreases-loop-i l = l.n - l.i

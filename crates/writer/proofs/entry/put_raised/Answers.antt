@@ -12,7 +12,7 @@ pub returns : goal.returns
 unfolding renumber
 returns c =
     let a = c.args in
-    let shaped : Shaped (row_of a.kind) c.shape_of-shape.result = rw c.wide.ensures.0 at c.shape_of-shape.ensures in
+    let shaped : Shaped (row_of a.kind) c.shape_of-shape.result = rw c.from.ensures at c.shape_of-shape.ensures in
     let to : ℕ → ℕ = λ x. x + a.distance in
     c.put.ensures
     ∙ ap₂ (λ (l r : ℕ). laid a.out.now a.at (fields a.kind a.label l r ∷ []))
