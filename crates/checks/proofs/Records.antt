@@ -3,10 +3,13 @@
 use Prim.Native.Nat.{ℕ, zero, suc, ◌-◌, ◌≤◌, ◌<◌}
 use native.Mathlib.Omega.{arith}
 use mathlib.Core.Path.{◌≡◌, refl, sym, ◌∙◌}
-use mathlib.Core.Bool.{Bool, ◌&&◌, ◌||◌}
+use mathlib.Core.Bool.{Bool, true, false, ◌&&◌, ◌||◌, cond}
 use mathlib.Core.List.{[], ◌∷◌, map}
 use mathlib.Core.Option.{none, some}
 use lib.Dec.{eqb, ltb}
+use Rattle.std.specs.Prelude.{Some}
+use Rattle.std.specs.Ordering.{partial_lt, is_some_and, is_lt, partial_ordering_then, nat_cmp}
+use Rattle.std.specs.declared.cmp.Ordering.TheVariants.{Less, Equal, Greater}
 use lib.ListN.{length, length-map, get_or-map, get_or-eq_default}
 use Rattle.reply.specs.Bytes.{Bytes}
 use Rattle.tree.specs.Tree.{Label}
@@ -96,3 +99,16 @@ module _ (b : Bytes) where
       let before : suc i - 1 ≡ i = omega arith in
       rw (was_read (rw before at last), was_read own)
       (or_test (less_test r.parent s.parent) (and_test (equal_test r.parent s.parent) (less_test r.child s.child)))
+
+-- what two tests say of a pair's parts, the order of pairs says of the pairs
+tests_less : (l e m f : Bool) → is_some_and is_lt (partial_ordering_then (Some (cond l Less (cond e Equal Greater))) (Some (cond m Less (cond f Equal Greater))))
+    ≡ (l || e && m)
+tests_less true e m f = refl
+tests_less false false m f = refl
+tests_less false true true f = refl
+tests_less false true false true = refl
+tests_less false true false false = refl
+
+pub pair_less : (a b p q : ℕ) → partial_lt {X = ℕ × ℕ} (λ x y. partial_ordering_then (Some (nat_cmp x.0 y.0)) (Some (nat_cmp x.1 y.1))) (a, b) (p, q)
+    ≡ (ltb a p || eqb a p && ltb b q)
+pair_less a b p q = tests_less (ltb a p) (eqb a p) (ltb b q) (eqb b q)

@@ -28,7 +28,7 @@ fn ascends(annotation: &[u8], i: usize) -> bool
     }
     let last = record_at(annotation, i - 1);
     let own = record_at(annotation, i);
-    (last.parent < own.parent) | (last.parent == own.parent) & (last.child < own.child)
+    (last.parent, last.child) < (own.parent, own.child)
 }
 
 // Checks record i, where the records before it are right: "in it 10, 11".

@@ -18,10 +18,7 @@ fn length_fits(roll: &[u8]) -> bool
     ensures { T result ↔ RollLength roll.now }
 {
     let n = roll.len();
-    if n % 4 != 0 {
-        return false;
-    }
-    1 <= n && n <= LONGEST
+    n % 4 == 0 && (1..=LONGEST).contains(&n)
 }
 
 // The three parts of a record that is right: its label, its second byte, and its parent, which is checked where the

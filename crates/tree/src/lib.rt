@@ -9,5 +9,5 @@ ghost use Rattle.tree.specs.Tree.{Label};
 pub fn is_label(label: usize) -> bool
     ensures { T result ↔ Label label }
 {
-    1 <= label && label <= 64
+    (1..=64).contains(&label)
 }
