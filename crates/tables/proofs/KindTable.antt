@@ -3,6 +3,7 @@
 use Prim.Native.Nat.{ℕ, zero, suc, ◌+◌, ◌*◌, ◌/◌, ◌%◌, ◌≤◌, ◌<◌}
 use native.Mathlib.Omega.{arith}
 use mathlib.Core.Path.{◌≡◌, refl, sym, ap, ◌∙◌}
+use mathlib.Core.Logic.{◌≢◌}
 use mathlib.Core.List.{List, [], ◌∷◌}
 use mathlib.Core.Option.{Option, none, some}
 use mathlib.Core.Bool.{Bool, true, false, ◌&&◌}
@@ -11,6 +12,9 @@ use lib.ListN.{get_or}
 use mir.Facts.{and_yes}
 use borrow.Author.Tests.{le-leb, lt-leb, ne_eqb}
 use Rattle.query.specs.Kind.{path, filter, Operand, unused, of, Row, kinds, find, row_of}
+use Rattle.tables.specs.declared.kinds.Kind.{Kind}
+use Rattle.tables.specs.declared.kinds.Kind.TheVariants.{Itself, Child, Parent, Next, Previous, Stay, Then, Either, Star, Labelled, Leads, Always, Never, Not, And, Or}
+use Rattle.tables.specs.Kind.{number}
 use Rattle.tables.specs.Shape.{operand_number, sort_of, left_of, right_of, label_of, label_number, row_byte, Shaped}
 
 -- the values of a function at n numbers from i on
@@ -86,3 +90,27 @@ taken_apart row =
     let r = right_bits row in
     let sorts : ℕ = sort_of row + 4 * left_of row + 16 * right_of row in
     record { sort = omega arith; left = omega arith; right = omega arith; label = label_bit (label_of row) sorts (omega arith) }
+
+-- every case of the code's enum is in the list of kinds
+listed : (k : Kind) → 0 < sort_of (row_of (number k))
+unfolding kinds find
+listed Itself = omega arith
+listed Child = omega arith
+listed Parent = omega arith
+listed Next = omega arith
+listed Previous = omega arith
+listed Stay = omega arith
+listed Then = omega arith
+listed Either = omega arith
+listed Star = omega arith
+listed Labelled = omega arith
+listed Leads = omega arith
+listed Always = omega arith
+listed Never = omega arith
+listed Not = omega arith
+listed And = omega arith
+listed Or = omega arith
+
+-- so a number that is not in the list is that of no case
+pub unlisted : {n : ℕ} → row_of n ≡ none → (k : Kind) → n ≢ number k
+unlisted gone k e = omega (arith, listed k, ap sort_of (ap row_of (sym e) ∙ gone))

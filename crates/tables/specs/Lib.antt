@@ -1,3 +1,4 @@
+pub mod Kind
 pub mod Shape
 pub mod Fields
 pub mod Promise

@@ -2,11 +2,12 @@
 ghost use Rattle.std.specs.Prelude.{◌≡◌, [], ◌∷◌, ◌+◌, ◌*◌, ◌<◌, ◌≤◌, length, get_or};
 ghost use Rattle.reply.specs.Bytes.{two};
 ghost use Rattle.query.specs.Table.{entries, entry_at, row_at};
+ghost use Rattle.tables.specs.Kind.{Stands};
 ghost use Rattle.tables.specs.Shape.{sort_of};
 ghost use Rattle.tables.specs.Fields.{Fields};
 ghost use Rattle.tables.specs.Laid.{laid, fields};
 
-use crate::kinds::sort_of;
+use crate::kinds::{Kind, kind_of, sort_of};
 use reply::{put_two_bytes, two_bytes};
 
 #[derive(Clone, Copy)]
@@ -57,6 +58,13 @@ pub fn kind_at(table: &[u8], i: usize) -> usize
     ensures { result ≡ (entry_at (entries table.now) i).kind }
 {
     entry_at(table, i).kind
+}
+
+// The kind of entry i, where the list has it.
+pub fn listed_kind(table: &[u8], i: usize) -> Option<Kind>
+    ensures { Stands (entry_at (entries table.now) i).kind result }
+{
+    kind_of(kind_at(table, i))
 }
 
 // The number of the sort of entry i, 0 where its kind is not listed.

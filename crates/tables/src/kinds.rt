@@ -2,7 +2,62 @@
 // constant table is laid out anew at each look-up: a table of bytes is a few moves.
 ghost use Rattle.std.specs.Prelude.{◌≡◌};
 ghost use Rattle.query.specs.Kind.{row_of};
+ghost use Rattle.tables.specs.Kind.{number, Stands};
 ghost use Rattle.tables.specs.Shape.{sort_of, row_byte, Shaped};
+
+// The kinds of entries, each with its number.
+#[derive(Clone, Copy, PartialEq, Eq)]
+pub enum Kind {
+    Itself = 1,
+    Child = 2,
+    Parent = 3,
+    Next = 4,
+    Previous = 5,
+    Stay = 6,
+    Then = 7,
+    Either = 8,
+    Star = 9,
+    Labelled = 16,
+    Leads = 17,
+    Always = 18,
+    Never = 19,
+    Not = 20,
+    And = 21,
+    Or = 22,
+}
+
+impl From<Kind> for u8 {
+    ghost from_gives = { λ k n. n ≡ number k };
+
+    fn from(kind: Kind) -> u8 {
+        kind as u8
+    }
+}
+
+// The kind with a number, where the list has it.
+pub fn kind_of(number: usize) -> Option<Kind>
+    ensures { Stands number result }
+{
+    match number {
+        1 => Some(Kind::Itself),
+        2 => Some(Kind::Child),
+        3 => Some(Kind::Parent),
+        4 => Some(Kind::Next),
+        5 => Some(Kind::Previous),
+        6 => Some(Kind::Stay),
+        7 => Some(Kind::Then),
+        8 => Some(Kind::Either),
+        9 => Some(Kind::Star),
+        16 => Some(Kind::Labelled),
+        17 => Some(Kind::Leads),
+        18 => Some(Kind::Always),
+        19 => Some(Kind::Never),
+        20 => Some(Kind::Not),
+        21 => Some(Kind::And),
+        22 => Some(Kind::Or),
+        _ => None,
+    }
+}
 
 // The numbers of the kinds.
 pub const SELF: u8 = 1;
