@@ -3,21 +3,23 @@
 use Prim.Native.Nat.{ℕ, ◌+◌, ◌*◌, ◌/◌, ◌≤◌, ◌<◌}
 use native.Mathlib.Numerals.{towards_suc}
 use native.Mathlib.Omega.{arith}
-use mathlib.Core.Path.{◌≡◌, refl, sym, ap, ◌∙◌, subst}
+use mathlib.Core.Path.{◌≡◌, refl, ap, ◌∙◌, subst}
 use mathlib.Core.Logic.{◌↔◌}
 use mathlib.Core.List.{[], ◌∷◌}
 use mathlib.Core.Option.{Option, none, some}
 use lib.ListN.{length, get_or, set}
 use lib.Seq.{sets}
 use Rattle.reply.specs.Bytes.{Bytes, two, two_bytes}
-use Rattle.query.specs.Kind.{Sort, path, filter, Operand, Row, row_of}
+use Rattle.query.specs.Kind as kind
+use Rattle.query.specs.Kind.{path, filter, of, Row, row_of}
 use Rattle.query.specs.Table as table
 use Rattle.query.specs.Table.{Entries, entries, entry_bytes, entry_at, row_at, HasSort}
 use Rattle.query.proofs.Tables.{entries_length, entry_from, entry_bytes_lem, no_entry}
 use Rattle.tables.specs.declared.entry.Entry.{Entry}
 use Rattle.tables.specs.Fields.{Fields}
 use Rattle.tables.specs.Laid.{laid, fields}
-use Rattle.tables.specs.Shape.{sort_number, OfOperand, sort_of}
+use Rattle.tables.specs.declared.kinds.Shape.{Shape}
+use Rattle.tables.specs.Shape.{sort_of, Shaped}
 
 module _ (b : Bytes) (i : ℕ) where
   -- the six bytes from 6 i on are entry i
@@ -41,33 +43,14 @@ pub stored : (out : Bytes) (n kind label left right : ℕ) {first second : Bytes
 unfolding entry_bytes two_bytes
 stored out n kind label left right one other = other ∙ rw one (simp towards_suc)
 
--- What was read of an entry, said of the entry.
-module _ {e : table.Entry} {read : Entry} (fields : Fields e read) where
-  -- the row of its kind
-  pub row_read : row_of read.kind ≡ row_of e.kind
-  row_read = ap row_of fields.kind
+-- What was read of an entry, said of the entry: the shape of the kind that was read is that of its kind.
+pub shape_read : {e : table.Entry} {read : Entry} {shape : Shape} → Fields e read → Shaped (row_of read.kind) shape → Shaped (row_of e.kind) shape
+shape_read {shape = shape} fields shaped = subst (λ (kind : ℕ). Shaped (row_of kind) shape) fields.kind shaped
 
-  -- what holds of an operand, in the column of the list of kinds that it has
-  pub operand_read : {number x y : ℕ} (P : Operand → ℕ → Type 0) (column : Option Row → ℕ) → number ≡ column (row_of read.kind) → x ≡ y
-      → OfOperand (λ o. P o x) number → OfOperand (λ o. P o y) (column (row_of e.kind))
-  operand_read P column n same holds o m = subst (P o) same (holds o (m ∙ sym (n ∙ ap column row_read)))
-
--- a sort has a number above 0
-pub sort_some : (s : Sort) → 0 < sort_number s
-sort_some path = omega arith
-sort_some filter = omega arith
-
--- two sorts with one number are one
-pub sort_one : (s u : Sort) → sort_number s ≡ sort_number u → s ≡ u
-sort_one path path e = refl
-sort_one path filter e = absurd (omega arith)
-sort_one filter path e = absurd (omega arith)
-sort_one filter filter e = refl
-
--- the number of an entry's sort says whether it has that sort
-pub sort_at : (es : Entries) (i : ℕ) (s : Sort) → (sort_of (row_at es i) ≡ sort_number s) ↔ HasSort es i s
-sort_at es i s = (go (row_at es i) refl, λ h. ap sort_of h.listed ∙ ap sort_number h.sort)
+-- the sort found for an entry says whether it has that sort
+pub sort_at : (es : Entries) (i : ℕ) (s : kind.Sort) → (sort_of (row_at es i) ≡ of s) ↔ HasSort es i s
+sort_at es i s = (go (row_at es i) refl, λ h. ap sort_of h.listed ∙ ap of h.sort)
   where
-    go : (row : Option Row) → row_at es i ≡ row → sort_of row ≡ sort_number s → HasSort es i s
-    go none e n = absurd (omega (arith, sort_some s))
-    go (some row) e n = record { row = row; listed = e; sort = sort_one row.sort s n }
+    go : (row : Option Row) → row_at es i ≡ row → sort_of row ≡ of s → HasSort es i s
+    go none e n = absurd (grind arith)
+    go (some row) e n = record { row = row; listed = e; sort = grind arith }

@@ -1,21 +1,25 @@
--- The constant table over kind numbers says what the list of kinds says: it is computed from the list, no kind stands behind it, and each
--- byte can be taken apart. Assumes nothing.
-use Prim.Native.Nat.{ℕ, zero, suc, ◌+◌, ◌*◌, ◌/◌, ◌%◌, ◌≤◌, ◌<◌}
+-- The constant table over kind numbers says what the list of kinds says: it is computed from the list, and no kind stands behind it.
+-- Assumes nothing.
+use Prim.Native.Nat.{ℕ, zero, suc, ◌+◌, ◌≤◌, ◌<◌}
 use native.Mathlib.Omega.{arith}
 use mathlib.Core.Path.{◌≡◌, refl, sym, ap, ◌∙◌}
 use mathlib.Core.Logic.{◌≢◌}
 use mathlib.Core.List.{List, [], ◌∷◌}
-use mathlib.Core.Option.{Option, none, some}
+use mathlib.Core.Option.{Option, none, some-ne-none}
 use mathlib.Core.Bool.{Bool, true, false, ◌&&◌}
-use lib.Dec.{T, leb, ltb, ltb→lt}
+use lib.Dec.{T, ltb, ltb→lt}
 use lib.ListN.{get_or}
 use mir.Facts.{and_yes}
-use borrow.Author.Tests.{le-leb, lt-leb, ne_eqb}
+use borrow.Author.Tests.{ne_eqb}
+use Rattle.std.specs.Prelude.{Option as Maybe, Some, None}
 use Rattle.query.specs.Kind.{path, filter, Operand, unused, of, Row, kinds, find, row_of}
 use Rattle.tables.specs.declared.kinds.Kind.{Kind}
 use Rattle.tables.specs.declared.kinds.Kind.TheVariants.{Itself, Child, Parent, Next, Previous, Stay, Then, Either, Star, Labelled, Leads, Always, Never, Not, And, Or}
 use Rattle.tables.specs.Kind.{number}
-use Rattle.tables.specs.Shape.{operand_number, sort_of, left_of, right_of, label_of, label_number, row_byte, Shaped}
+use Rattle.tables.specs.declared.kinds.Row.{Row as Written}
+use Rattle.tables.specs.declared.kinds.Sort.{Sort}
+use Rattle.tables.specs.declared.kinds.Sort.TheVariants.{Path, Filter}
+use Rattle.tables.specs.Shape.{operand, sort_of, left_of, right_of, label_of, Listed}
 
 -- the values of a function at n numbers from i on
 unfoldable pub values_from : {A : Type 0} → (ℕ → A) → ℕ → ℕ → List A
@@ -29,14 +33,33 @@ values_at f d i zero k l = absurd (omega arith)
 values_at f d i (suc n) zero l = ap f (omega arith)
 values_at f d i (suc n) (suc k) l = values_at f d (suc i) n k (omega arith) ∙ ap f (omega arith)
 
--- the byte of the row of a kind's number
-unfoldable pub byte_of : ℕ → ℕ
-byte_of kind = row_byte (row_of kind)
+-- the field of an operand
+abbrev field : Operand → Maybe Sort
+field unused = None
+field (of path) = Some Path
+field (of filter) = Some Filter
 
--- the table of these bytes, which is what the code's constant table computes to, says what the list says
-pub table_right : (kind : ℕ) → kind < 23 → get_or (values_from byte_of 0 23) kind 0 ≡ row_byte (row_of kind)
-unfolding byte_of
-table_right kind l = values_at byte_of 0 0 23 kind l ∙ ap byte_of (omega arith)
+-- says the operand
+field_lem : (o : Operand) → operand (field o) ≡ o
+field_lem unused = refl
+field_lem (of path) = refl
+field_lem (of filter) = refl
+
+-- the fields of a row
+unfoldable pub fields_of : Option Row → Written
+fields_of row = (field (sort_of row), field (left_of row), field (right_of row), label_of row)
+
+-- say the row
+fields_right : (row : Option Row) → Listed row (fields_of row)
+unfolding fields_of
+fields_right row =
+    record { sort = field_lem (sort_of row); left = field_lem (left_of row); right = field_lem (right_of row); label = refl }
+
+-- the table of the fields of each kind's row, which is what the code's constant table computes to, says what the list says
+pub table_right : (kind : ℕ) (d : Written) → kind < 23 → Listed (row_of kind) (get_or (values_from (λ k. fields_of (row_of k)) 0 23) kind d)
+table_right kind d l =
+    let here : 0 + kind ≡ kind = omega arith in
+    rw (values_at (λ k. fields_of (row_of k)) d 0 23 kind l, here) (fields_right (row_of kind))
 
 -- every row has a number below n
 unfoldable numbers_below : ℕ → List Row → Bool
@@ -53,64 +76,30 @@ find_beyond n k (row ∷ more) t l =
     rw (ne_eqb k row.number (λ e. omega arith), find) (find_beyond n k more both.1 l)
 
 -- there is no kind behind 22
-pub no_kind : (kind : ℕ) → 23 ≤ kind → 0 ≡ row_byte (row_of kind)
+pub no_kind : (kind : ℕ) → 23 ≤ kind → Listed (row_of kind) (None, None, None, false)
 unfolding kinds numbers_below
-no_kind kind l = ap row_byte (sym (find_beyond 23 kind kinds tt l))
-
--- The number of a sort takes two bits, in each of its three places.
-operand_bits : (o : Operand) → operand_number o < 4
-operand_bits unused = omega arith
-operand_bits (of path) = omega arith
-operand_bits (of filter) = omega arith
-
-sort_bits : (row : Option Row) → sort_of row < 4
-sort_bits none = omega arith
-sort_bits (some row) = operand_bits (of row.sort)
-
-left_bits : (row : Option Row) → left_of row < 4
-left_bits none = omega arith
-left_bits (some row) = operand_bits row.left
-
-right_bits : (row : Option Row) → right_of row < 4
-right_bits none = omega arith
-right_bits (some row) = operand_bits row.right
-
--- the label's bit stands above them
-label_bit : (used : Bool) (rest : ℕ) → rest < 64 → leb 64 (rest + 64 * label_number used) ≡ used
-label_bit false rest l = lt-leb 64 (rest + 64 * 0) (omega arith)
-label_bit true rest l = le-leb 64 (rest + 64 * 1) (omega arith)
-
--- so the byte of a row, taken apart, says what the row says
-pub taken_apart : (row : Option Row)
-    → let byte : ℕ = row_byte row in
-    Shaped row (record { sort = byte % 4; left = byte / 4 % 4; right = byte / 16 % 4; label = leb 64 byte })
-taken_apart row =
-    let s = sort_bits row in
-    let l = left_bits row in
-    let r = right_bits row in
-    let sorts : ℕ = sort_of row + 4 * left_of row + 16 * right_of row in
-    record { sort = omega arith; left = omega arith; right = omega arith; label = label_bit (label_of row) sorts (omega arith) }
+no_kind kind l = rw (find_beyond 23 kind kinds tt l) (record { sort = refl; left = refl; right = refl; label = refl })
 
 -- every case of the code's enum is in the list of kinds
-listed : (k : Kind) → 0 < sort_of (row_of (number k))
+listed : (k : Kind) → row_of (number k) ≢ none
 unfolding kinds find
-listed Itself = omega arith
-listed Child = omega arith
-listed Parent = omega arith
-listed Next = omega arith
-listed Previous = omega arith
-listed Stay = omega arith
-listed Then = omega arith
-listed Either = omega arith
-listed Star = omega arith
-listed Labelled = omega arith
-listed Leads = omega arith
-listed Always = omega arith
-listed Never = omega arith
-listed Not = omega arith
-listed And = omega arith
-listed Or = omega arith
+listed Itself e = some-ne-none _ e
+listed Child e = some-ne-none _ e
+listed Parent e = some-ne-none _ e
+listed Next e = some-ne-none _ e
+listed Previous e = some-ne-none _ e
+listed Stay e = some-ne-none _ e
+listed Then e = some-ne-none _ e
+listed Either e = some-ne-none _ e
+listed Star e = some-ne-none _ e
+listed Labelled e = some-ne-none _ e
+listed Leads e = some-ne-none _ e
+listed Always e = some-ne-none _ e
+listed Never e = some-ne-none _ e
+listed Not e = some-ne-none _ e
+listed And e = some-ne-none _ e
+listed Or e = some-ne-none _ e
 
 -- so a number that is not in the list is that of no case
 pub unlisted : {n : ℕ} → row_of n ≡ none → (k : Kind) → n ≢ number k
-unlisted gone k e = omega (arith, listed k, ap sort_of (ap row_of (sym e) ∙ gone))
+unlisted gone k e = listed k (ap row_of (sym e) ∙ gone)

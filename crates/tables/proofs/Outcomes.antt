@@ -1,8 +1,7 @@
 -- What the walk over the entries means for a query table and for a filter table. Assumes nothing.
 use Prim.Native.Nat.{ℕ, ◌-◌, ◌≤◌, ◌<◌}
 use native.Mathlib.Omega.{arith}
-use mathlib.Core.Path.{◌≡◌, ap, subst}
-use mathlib.Core.Logic.{◌↔◌}
+use mathlib.Core.Path.{◌≡◌, ap}
 use lib.ListN.{length}
 use Rattle.reply.specs.declared.Refusal.{Refusal}
 use Rattle.std.specs.Prelude.{Result, Ok, Err}
@@ -10,12 +9,10 @@ use Rattle.reply.specs.Reply.{Said, count, refused, said}
 use Rattle.reply.specs.Bytes.{Bytes, Whole}
 use Rattle.reply.proofs.Checking.{passes, fails, counted, faulted, passed_up}
 use Rattle.query.specs.Kind.{path}
-use Rattle.query.specs.Table.{entries, row_at, HasSort}
+use Rattle.query.specs.Table.{entries, HasSort}
 use Rattle.query.specs.Fault.{Limits, filters, EntryFits, QueryLength, last, QueryFault, no_path, FilterFault}
 use Rattle.query.proofs.Tables.{entries_length}
-use Rattle.tables.specs.Shape.{sort_of}
 use Rattle.tables.specs.Promise.{EntriesChecked, QueryChecked, FilterChecked}
-use Rattle.tables.proofs.Entries.{sort_at}
 
 -- a table within a limit has at most as many entries
 pub entries_within : {limit : ℕ} {b : Bytes} → Whole 6 limit b → length (entries b) ≤ limit
@@ -44,19 +41,13 @@ module _ {limit : Limits} {b : Bytes} (size : QueryLength limit b) (reply : Resu
     unfolding last
     here = ap (λ (m : ℕ). m - 1) all_fit.1
 
-    -- the number of the last entry's sort says whether it is a path
-    last_path : (sort_of (row_at (entries b) (n - 1)) ≡ 1) ↔ HasSort (entries b) (last limit b) path
-    last_path =
-        subst (λ (k : ℕ). (sort_of (row_at (entries b) (n - 1)) ≡ 1) ↔ HasSort (entries b) k path) here (sort_at (entries b) (n - 1) path)
-
     -- the last entry is a path
-    pub query_path : sort_of (row_at (entries b) (n - 1)) ≡ 1 → QueryChecked limit b (count n)
-    query_path sort = passes (record { size = size; entry = all_fit.0; path = last_path.0 sort }) all_fit.1
+    pub query_path : HasSort (entries b) (n - 1) path → QueryChecked limit b (count n)
+    query_path sort = passes (record { size = size; entry = all_fit.0; path = rw here at sort }) all_fit.1
 
     -- 12: the last entry is no path
-    pub query_no_path : ¬ (sort_of (row_at (entries b) (n - 1)) ≡ 1) → QueryChecked limit b (refused 12 (n - 1))
-    query_no_path sort =
-        rw here (fails (no_path size all_fit.0 (λ h. sort (last_path.1 h))))
+    pub query_no_path : ¬ HasSort (entries b) (n - 1) path → QueryChecked limit b (refused 12 (n - 1))
+    query_no_path sort = rw here (fails (no_path size all_fit.0 (rw here at sort)))
 
 -- 7: the length is wrong
 pub filter_length : {b : Bytes} → ¬ Whole 6 filters.entries b → FilterChecked b (refused 7 0)

@@ -6,9 +6,9 @@ ghost use Rattle.query.specs.Table.{entries as entriesOf};
 ghost use Rattle.query.specs.Fault.{Limits};
 ghost use Rattle.tables.specs.Promise.{EntriesChecked, QueryChecked, FilterChecked};
 
-use crate::entry::{count, sort_at};
+use crate::entry::{count, has_sort};
 use crate::height::height_below;
-use crate::kinds::PATH;
+use crate::kinds::Sort;
 use crate::order::entry_right;
 use reply::{ANSWER_ENTRIES, FILTER_ENTRIES, FILTER_HEIGHT, Reason, Reply, refuse};
 
@@ -52,7 +52,7 @@ pub fn check_query(table: &[u8], entries: usize, height: u16) -> Reply
     }
     let n = check_entries(table, height)?;
     let last = n - 1;
-    if sort_at(table, last) == PATH {
+    if has_sort(table, last, Sort::Path) {
         return Ok(n);
     }
     refuse(Reason::QueryTable, last)

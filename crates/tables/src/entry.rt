@@ -1,13 +1,13 @@
 // "Query entry, 6 bytes: kind, label, left (two bytes), right (two bytes)."
-ghost use Rattle.std.specs.Prelude.{◌≡◌, [], ◌∷◌, ◌+◌, ◌*◌, ◌<◌, ◌≤◌, length, get_or};
+ghost use Rattle.std.specs.Prelude.{◌≡◌, ◌↔◌, T, [], ◌∷◌, ◌+◌, ◌*◌, ◌<◌, ◌≤◌, length, get_or};
 ghost use Rattle.reply.specs.Bytes.{two};
-ghost use Rattle.query.specs.Table.{entries, entry_at, row_at};
+ghost use Rattle.query.specs.Table.{entries, entry_at, row_at, HasSort};
 ghost use Rattle.tables.specs.Kind.{Stands};
-ghost use Rattle.tables.specs.Shape.{sort_of};
+ghost use Rattle.tables.specs.Shape.{the_sort, operand, sort_of};
 ghost use Rattle.tables.specs.Fields.{Fields};
 ghost use Rattle.tables.specs.Laid.{laid, fields};
 
-use crate::kinds::{Kind, kind_of, sort_of};
+use crate::kinds::{Kind, Sort, kind_of, sort_of};
 use reply::{put_two_bytes, two_bytes};
 
 #[derive(Clone, Copy)]
@@ -67,11 +67,18 @@ pub fn listed_kind(table: &[u8], i: usize) -> Option<Kind>
     kind_of(kind_at(table, i))
 }
 
-// The number of the sort of entry i, 0 where its kind is not listed.
-pub fn sort_at(table: &[u8], i: usize) -> u8
-    ensures { result ≡ sort_of (row_at (entries table.now) i) }
+// The sort of entry i, where its kind is listed.
+pub fn sort_at(table: &[u8], i: usize) -> Option<Sort>
+    ensures { operand result ≡ sort_of (row_at (entries table.now) i) }
 {
     sort_of(kind_at(table, i))
+}
+
+// Whether entry i is of a sort.
+pub fn has_sort(table: &[u8], i: usize, sort: Sort) -> bool
+    ensures { T result ↔ HasSort (entries table.now) i (the_sort sort) }
+{
+    sort_at(table, i) == Some(sort)
 }
 
 // Writes entry i.

@@ -1,10 +1,10 @@
 // "The height of an entry is 1 without operands, otherwise 1 plus the greatest height of its operands."
 ghost use Rattle.std.specs.Prelude.{◌≡◌, ◌+◌, max};
 ghost use Rattle.query.specs.Table.{entries, entry_at, operand_height, height};
-ghost use Rattle.tables.specs.Shape.{OfOperand};
+ghost use Rattle.tables.specs.Shape.{operand};
 
 use crate::entry::entry_at;
-use crate::kinds::{NONE, shape_of};
+use crate::kinds::{Sort, shape_of};
 
 pub fn higher(left: u16, right: u16) -> u16
     ensures { result ≡ max left right }
@@ -13,16 +13,13 @@ pub fn higher(left: u16, right: u16) -> u16
 }
 
 // The height of an operand among those of the entries before it, 0 where the field is unused.
-fn operand_height(heights: &[u16], sort: u8, number: usize) -> u16
-    ensures { OfOperand (λ o. result ≡ operand_height heights.now o number) sort }
+fn operand_height(heights: &[u16], sort: Option<Sort>, number: usize) -> u16
+    ensures { result ≡ operand_height heights.now (operand sort) number }
 {
-    if sort == NONE {
-        return 0;
+    match sort {
+        None => 0,
+        Some(_) => heights.get(number).copied().unwrap_or(0),
     }
-    if heights.len() <= number {
-        return 0;
-    }
-    heights[number]
 }
 
 // The greatest height of the operands of entry i, which is one less than its own.
@@ -33,5 +30,5 @@ pub fn height_below(heights: &[u16], table: &[u8], i: usize) -> u16
     let shape = shape_of(entry.kind);
     let left = operand_height(heights, shape.left, entry.left);
     let right = operand_height(heights, shape.right, entry.right);
-    higher(left, right)
+    left.max(right)
 }

@@ -1,9 +1,9 @@
-// "For each kind the list below says which operands it takes": the list as a constant table over kind numbers. A row is one byte, since a
-// constant table is laid out anew at each look-up: a table of bytes is a few moves.
+// "For each kind the list below says which operands it takes": the list as a constant table over kind numbers. It is a `static`, since a
+// `const` table is laid out anew at each look-up.
 ghost use Rattle.std.specs.Prelude.{◌≡◌};
 ghost use Rattle.query.specs.Kind.{row_of};
 ghost use Rattle.tables.specs.Kind.{number, Stands};
-ghost use Rattle.tables.specs.Shape.{sort_of, row_byte, Shaped};
+ghost use Rattle.tables.specs.Shape.{operand, sort_of, Shaped, Listed};
 
 // The kinds of entries, each with its number.
 #[derive(Clone, Copy, PartialEq, Eq)]
@@ -92,79 +92,80 @@ pub const AND: u8 = 21;
 
 pub const OR: u8 = 22;
 
-// The numbers of the sorts. A field with no sort is unused, and a number with no sort is no kind's.
-pub const NONE: u8 = 0;
+// The sorts of entries.
+#[derive(Clone, Copy, PartialEq, Eq)]
+pub enum Sort {
+    Path,
+    Filter,
+}
 
-pub const PATH: u8 = 1;
-
-pub const FILTER: u8 = 2;
-
-// All of them are below this.
-const SORTS: u8 = 4;
-
-// A row is a kind's sort, this many times the sort of its left operand and of its right one, and this where it uses its label.
-const LEFT: u8 = 4;
-
-const RIGHT: u8 = 16;
-
-const LABEL: u8 = 64;
-
-const KINDS: [u8; 23] = [
-    NONE, // 0: no kind
-    PATH, // 1: self
-    PATH, // 2: child
-    PATH, // 3: parent
-    PATH, // 4: next sibling
-    PATH, // 5: previous sibling
-    PATH + LEFT * FILTER, // 6: stay if the filter holds
-    PATH + LEFT * PATH + RIGHT * PATH, // 7: left, then right
-    PATH + LEFT * PATH + RIGHT * PATH, // 8: left or right
-    PATH + LEFT * PATH, // 9: left, zero or more times
-    NONE, // 10 to 15: no kinds
-    NONE,
-    NONE,
-    NONE,
-    NONE,
-    NONE,
-    FILTER + LABEL, // 16: label is the given one
-    FILTER + LEFT * PATH, // 17: left leads somewhere
-    FILTER, // 18: true
-    FILTER, // 19: false
-    FILTER + LEFT * FILTER, // 20: not
-    FILTER + LEFT * FILTER + RIGHT * FILTER, // 21: and
-    FILTER + LEFT * FILTER + RIGHT * FILTER, // 22: or
-];
-
-// A kind's sort, the sorts of its left and right operand, and whether it uses its label.
+// A kind's sort, the sorts of its left and right operand, and whether it uses its label. A field with no sort is unused, and a number with
+// no sort is no kind's.
 #[derive(Clone, Copy)]
 pub struct Shape {
-    pub sort: u8,
-    pub left: u8,
-    pub right: u8,
+    pub sort: Option<Sort>,
+    pub left: Option<Sort>,
+    pub right: Option<Sort>,
     pub label: bool,
 }
 
+// The fields of a shape, in this order.
+#[derive(Clone, Copy)]
+struct Row(Option<Sort>, Option<Sort>, Option<Sort>, bool);
+
+const PATH: Option<Sort> = Some(Sort::Path);
+
+const FILTER: Option<Sort> = Some(Sort::Filter);
+
+const NO_KIND: Row = Row(None, None, None, false);
+
+static KINDS: [Row; 23] = [
+    NO_KIND, // 0
+    Row(PATH, None, None, false), // 1: self
+    Row(PATH, None, None, false), // 2: child
+    Row(PATH, None, None, false), // 3: parent
+    Row(PATH, None, None, false), // 4: next sibling
+    Row(PATH, None, None, false), // 5: previous sibling
+    Row(PATH, FILTER, None, false), // 6: stay if the filter holds
+    Row(PATH, PATH, PATH, false), // 7: left, then right
+    Row(PATH, PATH, PATH, false), // 8: left or right
+    Row(PATH, PATH, None, false), // 9: left, zero or more times
+    NO_KIND, // 10 to 15
+    NO_KIND,
+    NO_KIND,
+    NO_KIND,
+    NO_KIND,
+    NO_KIND,
+    Row(FILTER, None, None, true), // 16: label is the given one
+    Row(FILTER, PATH, None, false), // 17: left leads somewhere
+    Row(FILTER, None, None, false), // 18: true
+    Row(FILTER, None, None, false), // 19: false
+    Row(FILTER, FILTER, None, false), // 20: not
+    Row(FILTER, FILTER, FILTER, false), // 21: and
+    Row(FILTER, FILTER, FILTER, false), // 22: or
+];
+
 // The row of a kind's number.
-fn row_of(kind: usize) -> u8
-    ensures { result ≡ row_byte (row_of kind) }
+fn row_of(kind: usize) -> Row
+    ensures { Listed (row_of kind) result }
 {
-    if kind < 23 { KINDS[kind] } else { NONE }
+    if kind < 23 { KINDS[kind] } else { NO_KIND }
 }
 
 pub fn shape_of(kind: usize) -> Shape
     ensures { Shaped (row_of kind) result }
 {
-    let row = row_of(kind);
+    let Row(sort, left, right, label) = row_of(kind);
     Shape {
-        sort: row % SORTS,
-        left: row / LEFT % SORTS,
-        right: row / RIGHT % SORTS,
-        label: row >= LABEL,
+        sort,
+        left,
+        right,
+        label,
     }
 }
 
-pub fn sort_of(kind: usize) -> u8
-    ensures { result ≡ sort_of (row_of kind) }
+pub fn sort_of(kind: usize) -> Option<Sort>
+    ensures { operand result ≡ sort_of (row_of kind) }
 {
-    row_of(kind) % SORTS
+    row_of(kind).0
 }

@@ -1,10 +1,10 @@
 // Whether an entry is in order.
 ghost use Rattle.std.specs.Prelude.{◌↔◌, T};
 ghost use Rattle.query.specs.Table.{entries, LabelField, OperandField, EntryRight};
-ghost use Rattle.tables.specs.Shape.{OfOperand};
+ghost use Rattle.tables.specs.Shape.{operand};
 
-use crate::entry::{entry_at, sort_at};
-use crate::kinds::{NONE, shape_of};
+use crate::entry::{entry_at, has_sort};
+use crate::kinds::{Sort, shape_of};
 use tree::is_label;
 
 // "label is the given one (1 to 64)", and "unused fields are zero".
@@ -15,13 +15,12 @@ fn label_right(used: bool, label: usize) -> bool
 }
 
 // "Operands are numbers of earlier entries", and "unused fields are zero".
-fn operand_right(table: &[u8], i: usize, sort: u8, number: usize) -> bool
-    ensures { OfOperand (λ o. T result ↔ OperandField (entries table.now) i o number) sort }
+fn operand_right(table: &[u8], i: usize, sort: Option<Sort>, number: usize) -> bool
+    ensures { T result ↔ OperandField (entries table.now) i (operand sort) number }
 {
-    if sort == NONE {
-        number == 0
-    } else {
-        (number < i) & (sort_at(table, number) == sort)
+    match sort {
+        None => number == 0,
+        Some(asked) => (number < i) & has_sort(table, number, asked),
     }
 }
 
@@ -31,7 +30,7 @@ pub fn entry_right(table: &[u8], i: usize) -> bool
 {
     let entry = entry_at(table, i);
     let shape = shape_of(entry.kind);
-    let listed = shape.sort != NONE;
+    let listed = shape.sort.is_some();
     let label = label_right(shape.label, entry.label);
     let left = operand_right(table, i, shape.left, entry.left);
     let right = operand_right(table, i, shape.right, entry.right);

@@ -1,7 +1,7 @@
 -- `tables::check::check_query`: 12 for the length, then what the walk over the entries refuses, then 12 for the last
 -- entry.
 use native.Mathlib.Omega.{arith}
-use mathlib.Core.Path.{refl, sym, ◌∙◌}
+use mathlib.Core.Path.{refl}
 use mathlib.Core.Logic.{◌↔◌}
 use mathlib.Core.Bool.{◌&&◌}
 use lib.Dec.{T, ltb}
@@ -46,12 +46,12 @@ pub overflow_sub-last : goal.overflow_sub-last
 overflow_sub-last c =
     query_some (size (goal.at.overflow_sub-last c).Else-not-fits) c.check_entries.result (walked (goal.at.overflow_sub-last c).After-check_entries) c.in_ok-n.n c.in_ok-n.was
 
-pub returns-then-sort_at-eq-PATH : goal.returns-then-sort_at-eq-PATH
-returns-then-sort_at-eq-PATH c =
-    query_path (size (goal.at.returns-then-sort_at-eq-PATH c).Else-not-fits) c.check_entries.result (walked (goal.at.returns-then-sort_at-eq-PATH c).After-check_entries) c.in_ok-n.n c.in_ok-n.was
-    (sym c.sort_at.ensures ∙ c.if-sort_at-eq-PATH.true)
+pub returns-then-has_sort : goal.returns-then-has_sort
+returns-then-has_sort c =
+    query_path (size (goal.at.returns-then-has_sort c).Else-not-fits) c.check_entries.result (walked (goal.at.returns-then-has_sort c).After-check_entries) c.in_ok-n.n c.in_ok-n.was
+    (test_passed c.has_sort.result c.has_sort.ensures c.if-has_sort.true)
 
 pub returns : goal.returns
 returns c =
     rw c.refuse-2.ensures (query_no_path (size (goal.at.returns c).Else-not-fits) c.check_entries.result (walked (goal.at.returns c).After-check_entries) c.in_ok-n.n c.in_ok-n.was
-    (λ e. c.if-sort_at-eq-PATH.false (c.sort_at.ensures ∙ e)))
+    (test_failed c.has_sort.result c.has_sort.ensures c.if-has_sort.false))

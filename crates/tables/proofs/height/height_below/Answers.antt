@@ -6,7 +6,7 @@ use Rattle.tables.proofs.height.height_below.Goals as goal
 
 pub returns : goal.returns
 returns c =
-    let shape = c.shape_of-shape.ensures in
-    ap (λ (h : ℕ). h + 1) c.higher.ensures
-    ∙ height_read c.args.heights.now c.entry_at-entry.result c.entry_at-entry.ensures
-    shape.left c.operand_height-left.ensures shape.right c.operand_height-right.ensures
+    let shape = c.shape_of-shape in
+    ap (λ (h : ℕ). h + 1) c.max.ensures
+    ∙ height_read c.args.heights.now c.entry_at-entry.result shape.result c.entry_at-entry.ensures shape.ensures
+    c.operand_height-left.ensures c.operand_height-right.ensures

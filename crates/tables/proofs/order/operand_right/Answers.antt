@@ -1,14 +1,13 @@
 -- `tables::order::operand_right`: an unused operand is 0, and a used one is an earlier entry of its sort.
 use Rattle.query.specs.Table.{entries}
+use Rattle.tables.specs.Shape.{the_sort}
 use Rattle.tables.proofs.Deciding.{operand_unused, operand_used}
 use Rattle.tables.proofs.order.operand_right.Goals as goal
 
-pub returns-then-sort-eq-NONE : goal.returns-then-sort-eq-NONE
-returns-then-sort-eq-NONE c o e =
-    let a = c.args in
-    (operand_unused (entries a.table.now) a.i o a.number a.sort e c.if-sort-eq-NONE.true).exact
+pub returns-in-None : goal.returns-in-None
+returns-in-None c = rw c.in-None.is (operand_unused (entries c.args.table.now) c.args.i c.args.number).exact
 
-pub returns-else-sort-eq-NONE : goal.returns-else-sort-eq-NONE
-returns-else-sort-eq-NONE c o e =
+pub returns-in-Some : goal.returns-in-Some
+returns-in-Some c =
     let a = c.args in
-    rw c.sort_at.ensures (operand_used (entries a.table.now) a.i o a.number a.sort e c.if-sort-eq-NONE.false).exact
+    rw c.in-Some.is (operand_used (entries a.table.now) a.i a.number (the_sort c.in-Some.asked) (record { exact = c.has_sort.ensures })).exact
