@@ -3,7 +3,7 @@ use mathlib.Core.Logic.{◌↔◌}
 use mathlib.Core.Bool.{◌&&◌}
 use lib.Dec.{T}
 use Rattle.reply.specs.Bytes.{Whole}
-use Rattle.reply.proofs.Checking.{fails, right_of, passed_up, checked_as}
+use Rattle.reply.proofs.Checking.{fails, met, right_of, passed_up, checked_as}
 use Rattle.tree.proofs.Tests.{Decides, and_test, same_test, test_passed, test_failed}
 use Rattle.tables.proofs.Outcomes.{entries_within}
 use Rattle.rules.specs.Rules.{RulesLength, bad_length, bad_entry, bad_record}
@@ -33,15 +33,16 @@ pub returns-then-not-sized : goal.returns-then-not-sized
 returns-then-not-sized c =
     rw c.refuse.ensures (fails (bad_length (test_failed (c.whole.result && c.whole-2.result) (exact (goal.at.returns-then-not-sized c).After-whole-2) c.if-not-sized.true)))
 
-pub check_entries-entries-requires : goal.check_entries-entries-requires
-check_entries-entries-requires c = entries_within (size c).of_entries
+pub check_entries-requires : goal.check_entries-requires
+check_entries-requires c = entries_within (size c).of_entries
 
-pub returns-in_default : goal.returns-in_default
-returns-in_default c =
-    passed_up (λ n p. bad_entry (size (goal.at.returns-in_default c).Else-not-sized)) c.in_default.is c.check_entries-entries.ensures
+pub returns-in_err-check_entries : goal.returns-in_err-check_entries
+returns-in_err-check_entries c =
+    passed_up (λ n p. bad_entry (size (goal.at.returns-in_err-check_entries c).Else-not-sized))
+    c.in_err-check_entries.was (met c.from_residual.ensures.1) c.check_entries.ensures
 
 pub returns : goal.returns
 returns c =
-    let fits = right_of c.in-Count.is c.check_entries-entries.ensures in
+    let fits = right_of c.in_ok-check_entries.was c.check_entries.ensures in
     let length = size (goal.at.returns c).Else-not-sized in
-    checked_as (λ each. record { size = length; entry = fits; each = each }) (λ n p. bad_record length fits) c.check_list-records.ensures
+    checked_as (λ each. record { size = length; entry = fits; each = each }) (λ n p. bad_record length fits) c.check_list.ensures

@@ -1,5 +1,4 @@
--- `rulebook::entries::check_entries`: the walk comes to the lowest entry that is not in order or too high, or to the end. The measure is
--- the number of entries that are left.
+-- `rulebook::entries::check_entries`: the walk comes to the lowest entry that is not in order or too high, or to the end.
 use mathlib.Core.Path.{refl}
 use lib.ListN.{length-set}
 use native.Mathlib.Omega.{arith}
@@ -16,7 +15,7 @@ ordered : (c : Else-not-entry_right)
 ordered c = test_passed c.entry_right.result c.entry_right.ensures c.if-not-entry_right.false
 
 pub loop-i-init : goal.loop-i-init
-loop-i-init c = record { within = omega arith; counted = c.count-n.ensures; room = refl; walked = walk_starts _ _ }
+loop-i-init c = record { counted = c.count-n.ensures; room = refl; walked = walk_starts _ _ }
 
 pub returns-then-not-entry_right : goal.returns-then-not-entry_right
 returns-then-not-entry_right c =
@@ -39,7 +38,6 @@ pub loop-i-preserved : goal.loop-i-preserved
 loop-i-preserved c =
     let here = c.loop-i.invariant in
     record {
-      within = omega arith;
       counted = here.counted;
       room = simp length-set here.room;
       walked = walk_on here.walked (ordered (goal.at.loop-i-preserved c).Else-not-entry_right) c.height_below-below.ensures (omega arith) (omega arith);

@@ -1,6 +1,5 @@
--- `rulebook::entries::check_entries`: the walk comes to the lowest entry that is not in order or too high, or to the end. The measure is
--- the number of entries that are left.
-use Prim.Native.Nat.{ℕ, ◌-◌, ◌≤◌}
+-- `rulebook::entries::check_entries`: the walk comes to the lowest entry that is not in order or too high, or to the end.
+use Prim.Native.Nat.{ℕ}
 use mathlib.Core.Path.{◌≡◌}
 use mathlib.Core.List.{List}
 use lib.ListN.{length}
@@ -11,13 +10,9 @@ use Rattle.rulebook.proofs.entries.check_entries.Given as goal
 
 -- where the walk stands before entry i
 pub record Standing (rules : Bytes) (n : ℕ) (heights : List ℕ) (i : ℕ) : Type 0 where
-  pub within : i ≤ n
   pub counted : n ≡ length (entries rules)
   pub room : length heights ≡ 256
   pub walked : Walked rules heights i
 
 abbrev pub invariant-loop-i : goal.invariant-loop-i
 invariant-loop-i l = Standing l.rules l.n l.heights l.i
-
-abbrev pub decreases-loop-i : goal.decreases-loop-i
-decreases-loop-i l = l.n - l.i

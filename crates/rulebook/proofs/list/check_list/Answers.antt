@@ -1,24 +1,19 @@
--- `rulebook::list::check_list` looks at the records in turn: those that were passed fit. The measure is the number of records that are
--- left.
+-- `rulebook::list::check_list` looks at the records in turn: those that were passed fit.
 use native.Mathlib.Omega.{arith}
-use borrow.Author.Count.{below_none, below_more}
-use borrow.Author.Rules.{rules}
+use borrow.Author.Count.{below_more}
 use Rattle.tree.proofs.Tests.{test_failed, test_passed}
 use Rattle.rulebook.proofs.Walk.{all_fit, misfit}
 use Rattle.rulebook.proofs.list.check_list.Goals as goal
 
-pub loop-k-init : goal.loop-k-init
-loop-k-init c = (search rules, below_none _)
-
 pub returns-then-not-record_fits : goal.returns-then-not-record_fits
 returns-then-not-record_fits c =
-    misfit c.loop-k.invariant.1 (omega arith)
+    misfit c.loop-k.invariant (omega arith)
     (test_failed c.record_fits.result c.record_fits.ensures c.if-not-record_fits.true) c.refuse.ensures
 
 pub loop-k-preserved : goal.loop-k-preserved
 loop-k-preserved c =
     let fits = test_passed c.record_fits.result c.record_fits.ensures c.if-not-record_fits.false in
-    (omega arith, below_more _ _ c.loop-k.invariant.1 fits)
+    below_more _ _ c.loop-k.invariant fits
 
 pub returns : goal.returns
-returns c = all_fit c.loop-k.invariant.1 (omega arith) c.count-n.ensures
+returns c = all_fit c.loop-k.invariant (omega arith) c.count-n.ensures
