@@ -1,37 +1,45 @@
--- The height of a rule entry in order, from the heights that are known of the entries before it. Assumes nothing.
-use Prim.Native.Nat.{ℕ, ◌+◌, ◌≤◌, ◌<◌, max}
+-- The height of an entry, from the heights that are known of the entries before it. Assumes nothing.
+use Prim.Native.Nat.{ℕ, ◌+◌, ◌<◌, max}
 use native.Mathlib.Omega.{arith}
-use mathlib.Core.Path.{◌≡◌, ap}
+use mathlib.Core.Path.{◌≡◌, refl, sym, ap, ◌∙◌}
+use mathlib.Core.Logic.{◌⊎◌, ⊎_elim}
 use mathlib.Core.List.{List}
 use lib.ListN.{length, get_or}
-use Rattle.query.specs.Table.{Entries, entry_at}
-use Rattle.tables.specs.declared.entry.Entry.{Entry}
-use Rattle.tables.specs.Fields.{Fields}
-use Rattle.rules.specs.Table.{EntryRight, expression_at, height}
-use Rattle.rules.proofs.Standing.{Stands, nothing, one_label, in_turn, one_of_two, any_times, stands}
+use Rattle.query.specs.Table.{Entries}
+use Rattle.rules.specs.declared.Rule.{Rule}
+use Rattle.rules.specs.declared.Rule.TheVariants.{Empty, One, Then, Either, Star}
+use Rattle.rules.specs.Table.{expression_at, height}
+use Rattle.rules.specs.Read.{FieldsRight, Is, meaning}
+use Rattle.rules.proofs.Standing.{stands}
 use Rattle.rulebook.specs.Rulebook.{HeightsKnown}
-use Rattle.rulebook.proofs.Fields.{taken}
 
--- an entry of height h is one higher than the higher of its operands, of which its kind takes none, one or two
-pub record Grown (heights : List ℕ) (read : Entry) (h : ℕ) : Type 0 where
-  pub alone : read.kind < 34 → 0 + 1 ≡ h
-  pub above_one : 36 ≤ read.kind → get_or heights read.left 0 + 1 ≡ h
-  pub above_two : 34 ≤ read.kind → read.kind < 36 → max (get_or heights read.left 0) (get_or heights read.right 0) + 1 ≡ h
+-- the greatest height of its operands
+abbrev pub below : List ℕ → Rule → ℕ
+below heights Empty = 0
+below heights (One l) = 0
+below heights (Then a b) = max (get_or heights a 0) (get_or heights b 0)
+below heights (Either a b) = max (get_or heights a 0) (get_or heights b 0)
+below heights (Star a) = get_or heights a 0
 
-module _ (es : Entries) (i : ℕ) (within : i < length es) (heights : List ℕ) (known : HeightsKnown es heights i) {read : Entry}
-    (is : Fields (entry_at es i) read) where
-  -- the height that is known of an operand
-  operand : {x a : ℕ} → x ≡ a → a < i → get_or heights x 0 ≡ height (expression_at es a)
-  operand {a = a} e l = rw e (known a l)
+module _ (heights : List ℕ) {rule : Rule} where
+  -- by what the entry is
+  pub of_none : (rule ≡ Empty) ⊎ ((l : ℕ) × (rule ≡ One l)) → 0 ≡ below heights rule
+  of_none is = ⊎_elim (λ e. rw e refl) (λ (l, e). rw e refl) is
 
-  -- by the kinds of the entry
-  by_kind : Stands es i → Grown heights read (height (expression_at es i))
-  unfolding height
-  by_kind (nothing at e) = omega (arith, taken is at, ap height e)
-  by_kind (one_label at e) = omega (arith, taken is at, ap height e)
-  by_kind (in_turn l r at e) = let (k, _, a, b) = taken is at in omega (arith, ap height e, operand a l, operand b r)
-  by_kind (one_of_two l r at e) = let (k, _, a, b) = taken is at in omega (arith, ap height e, operand a l, operand b r)
-  by_kind (any_times l at e) = let (k, _, a, b) = taken is at in omega (arith, ap height e, operand a l)
+  pub of_two : {a b n : ℕ} → (rule ≡ Then a b) ⊎ (rule ≡ Either a b) → n ≡ max (get_or heights a 0) (get_or heights b 0) → n ≡ below heights rule
+  of_two is found = ⊎_elim (λ e. rw e found) (λ e. rw e found) is
 
-  pub grown : EntryRight es i → Grown heights read (height (expression_at es i))
-  grown right = by_kind (stands es i within right)
+-- it is one less than its own
+pub grown : (rule : Rule) (heights : List ℕ) {i n : ℕ} → FieldsRight i rule → n ≡ below heights rule → (es : Entries) → HeightsKnown es heights i
+    → n + 1 ≡ height (meaning es rule)
+unfolding height
+grown Empty heights right found es known = omega (arith, found)
+grown (One l) heights right found es known = omega (arith, found)
+grown (Then a b) heights (l, r) found es known = omega (arith, found, known a l, known b r)
+grown (Either a b) heights (l, r) found es known = omega (arith, found, known a l, known b r)
+grown (Star a) heights l found es known = omega (arith, found, known a l)
+
+-- and its own is that of what it stands for
+pub own_height : {es : Entries} {i n : ℕ} {rule : Rule} → i < length es → Is es i rule → n ≡ height (meaning es rule)
+    → n ≡ height (expression_at es i)
+own_height {es} {i} within is found = found ∙ sym (ap height (stands es i within is))

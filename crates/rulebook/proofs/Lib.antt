@@ -1,4 +1,3 @@
-pub mod Fields
 pub mod Heights
 pub mod Walk
 pub mod Listed

@@ -1,48 +1,41 @@
 // Rule entries: which are in order, how high they are, and the check of all of them.
-ghost use Rattle.std.specs.Prelude.{◌≡◌, ◌↔◌, ◌+◌, ◌<◌, ◌≤◌, T, length};
+ghost use Rattle.std.specs.Prelude.{◌≡◌, ◌+◌, ◌<◌, ◌≤◌, MatchOption, length};
 ghost use Rattle.reply.specs.Reply.{said};
-ghost use Rattle.query.specs.Table.{entries};
-ghost use Rattle.rules.specs.Table.{EntryRight, expression_at, height};
+ghost use Rattle.query.specs.Table.{Entries, entries};
+ghost use Rattle.rules.specs.Table.{EntryRight, height};
+ghost use Rattle.rules.specs.Read.{FieldsRight, Is, meaning};
 ghost use Rattle.rulebook.specs.Rulebook.{HeightsKnown, EntriesChecked};
 
 use reply::{RULE_ENTRIES, RULE_HEIGHT, Reason, Reply, refuse};
-use rules::{EITHER, EMPTY, ONE, STAR, THEN};
-use tables::{count, entry_at, higher};
+use rules::Rule;
+use tables::{count, entry_at};
 use tree::is_label;
 
-// Whether entry i is in order: its kind, "operands are numbers of earlier entries", and "unused fields are zero".
-fn entry_right(rules: &[u8], i: usize) -> bool
-    ensures { T result ↔ EntryRight (entries rules.now) i }
+// What entry i is, where it is in order: its kind, "operands are numbers of earlier entries", and "unused fields are zero".
+pub fn rule_at(rules: &[u8], i: usize) -> Option<Rule>
+    ensures { let es = entries rules.now in MatchOption result (¬ EntryRight es i) (λ rule. Is es i rule) }
 {
     let entry = entry_at(rules, i);
-    let kind = entry.kind;
-    let label = entry.label;
-    let left = entry.left;
-    let right = entry.right;
-    match kind {
-        EMPTY => (label == 0) & (left == 0) & (right == 0),
-        ONE => is_label(label) & (left == 0) & (right == 0),
-        THEN | EITHER => (label == 0) & (left < i) & (right < i),
-        STAR => (label == 0) & (left < i) & (right == 0),
-        _ => false,
+    match (entry.kind, entry.label, entry.left, entry.right) {
+        (32, 0, 0, 0) => Some(Rule::Empty),
+        (33, label, 0, 0) if is_label(label) => Some(Rule::One(label)),
+        (34, 0, left, right) if left < i && right < i => Some(Rule::Then(left, right)),
+        (35, 0, left, right) if left < i && right < i => Some(Rule::Either(left, right)),
+        (36, 0, of, 0) if of < i => Some(Rule::Star(of)),
+        _ => None,
     }
 }
 
 // The greatest height of the operands of entry i, 0 where it has none: one less than its own.
-fn height_below(heights: &[u16; RULE_ENTRIES], rules: &[u8], i: usize) -> u16
-    requires i_in_bounds { (i < length (entries rules.now)) × (i < 256) }
-    requires entry_right { EntryRight (entries rules.now) i }
-    requires heights_known { HeightsKnown (entries rules.now) heights.now i }
-    ensures { result + 1 ≡ height (expression_at (entries rules.now) i) }
+fn height_below(heights: &[u16; RULE_ENTRIES], rule: Rule, i: usize) -> u16
+    requires i_in_bounds { i < 256 }
+    requires right { FieldsRight i rule }
+    ensures { (es : Entries) → HeightsKnown es heights.now i → result + 1 ≡ height (meaning es rule) }
 {
-    let entry = entry_at(rules, i);
-    let kind = entry.kind;
-    let left = entry.left;
-    let right = entry.right;
-    match kind {
-        THEN | EITHER => higher(heights[left], heights[right]),
-        STAR => heights[left],
-        _ => 0,
+    match rule {
+        Rule::Empty | Rule::One(_) => 0,
+        Rule::Then(left, right) | Rule::Either(left, right) => heights[left].max(heights[right]),
+        Rule::Star(of) => heights[of],
     }
 }
 
@@ -54,10 +47,10 @@ pub(crate) fn check_entries(rules: &[u8]) -> Reply
     let n = count(rules);
     let mut heights = [0u16; RULE_ENTRIES];
     for i in 0..n {
-        if !entry_right(rules, i) {
+        let Some(rule) = rule_at(rules, i) else {
             return refuse(Reason::RulesMalformed, i);
-        }
-        let below = height_below(&heights, rules, i);
+        };
+        let below = height_below(&heights, rule, i);
         if RULE_HEIGHT <= below {
             return refuse(Reason::RulesMalformed, i);
         }

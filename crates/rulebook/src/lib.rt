@@ -8,6 +8,7 @@ mod list;
 ghost use Rattle.reply.specs.Reply.{said};
 ghost use Rattle.rulebook.specs.Rulebook.{RulesChecked};
 
+pub use entries::rule_at;
 use reply::{RULE_ENTRIES, Reason, Reply, refuse};
 
 // "place 0 for a bad length of either, then the lowest bad entry, then the lowest bad list record"; else the number of list records.

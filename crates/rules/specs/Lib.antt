@@ -1,4 +1,5 @@
 pub mod Language
 pub mod Table
+pub mod Read
 pub mod Rules
 pub mod Promise

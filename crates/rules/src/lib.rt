@@ -1,14 +1,13 @@
-// Content rules, request Q-3: definitions and laws, and the numbers of the kinds of rule entries.
+// Content rules, request Q-3: definitions and laws, and what a rule entry is read as.
 
 #![tactic(auto)]
 
-// "kinds 32 to 36 for empty, one label, one after another, either, zero or more"
-pub const EMPTY: usize = 32;
-
-pub const ONE: usize = 33;
-
-pub const THEN: usize = 34;
-
-pub const EITHER: usize = 35;
-
-pub const STAR: usize = 36;
+// "empty, one label, one after another, either, zero or more": a label, or the numbers of the entries that are its operands.
+#[derive(Clone, Copy)]
+pub enum Rule {
+    Empty,
+    One(usize),
+    Then(usize, usize),
+    Either(usize, usize),
+    Star(usize),
+}

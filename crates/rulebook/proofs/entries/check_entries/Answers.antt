@@ -1,38 +1,33 @@
 -- `rulebook::entries::check_entries`: the walk comes to the lowest entry that is not in order or too high, or to the end.
-use mathlib.Core.Path.{refl}
+use Prim.Native.Nat.{◌+◌}
+use mathlib.Core.Path.{◌≡◌, refl}
 use lib.ListN.{length-set}
 use native.Mathlib.Omega.{arith}
-use Rattle.tree.proofs.Tests.{test_passed, test_failed}
 use Rattle.query.specs.Table.{entries}
-use Rattle.rules.specs.Table.{EntryRight}
+use Rattle.rules.specs.Table.{expression_at, height}
+use Rattle.rules.proofs.Standing.{in_order}
+use Rattle.rulebook.proofs.Heights.{own_height}
 use Rattle.rulebook.proofs.Walk.{all_fit, misfit, walk_starts, walk_on}
 use Rattle.rulebook.proofs.entries.check_entries.Goals as goal
-use Rattle.rulebook.proofs.entries.check_entries.Goals.{Else-not-entry_right}
-
--- entry i has passed the test
-ordered : (c : Else-not-entry_right)
-    → EntryRight (entries c.args.rules.now) c.loop-i.i
-ordered c = test_passed c.entry_right.result c.entry_right.ensures c.if-not-entry_right.false
+use Rattle.rulebook.proofs.entries.check_entries.Goals.{After-height_below-below}
 
 pub loop-i-init : goal.loop-i-init
 loop-i-init c = record { counted = c.count-n.ensures; room = refl; walked = walk_starts _ _ }
 
-pub returns-then-not-entry_right : goal.returns-then-not-entry_right
-returns-then-not-entry_right c =
-    let wrong = test_failed c.entry_right.result c.entry_right.ensures c.if-not-entry_right.true in
-    misfit c.loop-i.invariant.walked.fits (omega arith) (λ fits. wrong fits.right) c.refuse.ensures
+pub returns-in_default : goal.returns-in_default
+returns-in_default c =
+    misfit c.loop-i.invariant.walked.fits (omega arith) (λ fits. c.in_default.ensures fits.right) c.refuse.ensures
 
-pub height_below-below-requires : goal.height_below-below-requires
-height_below-below-requires c = record {
-  i_in_bounds = (omega arith, omega arith);
-  entry_right = ordered (goal.at.height_below-below-requires c).Else-not-entry_right;
-  heights_known = c.loop-i.invariant.walked.known;
-}
+-- its height is found from those of its operands
+own : (c : After-height_below-below) → c.height_below-below.result + 1 ≡ height (expression_at (entries c.args.rules.now) c.loop-i.i)
+own c =
+    let here = c.loop-i.invariant in
+    own_height (omega arith) c.in-Some.ensures (c.height_below-below.ensures (entries c.args.rules.now) here.walked.known)
 
 pub returns-then-below-ge-RULE_HEIGHT : goal.returns-then-below-ge-RULE_HEIGHT
 returns-then-below-ge-RULE_HEIGHT c =
     misfit c.loop-i.invariant.walked.fits (omega arith)
-    (λ fits. omega (arith, fits.low, c.height_below-below.ensures)) c.refuse-then-below-ge-RULE_HEIGHT.ensures
+    (λ fits. omega (arith, fits.low, own (goal.at.returns-then-below-ge-RULE_HEIGHT c).After-height_below-below)) c.refuse-then-below-ge-RULE_HEIGHT.ensures
 
 pub loop-i-preserved : goal.loop-i-preserved
 loop-i-preserved c =
@@ -40,7 +35,7 @@ loop-i-preserved c =
     record {
       counted = here.counted;
       room = simp length-set here.room;
-      walked = walk_on here.walked (ordered (goal.at.loop-i-preserved c).Else-not-entry_right) c.height_below-below.ensures (omega arith) (omega arith);
+      walked = walk_on here.walked (in_order c.in-Some.ensures) (own (goal.at.loop-i-preserved c).After-height_below-below) (omega arith) (omega arith);
     }
 
 pub returns : goal.returns
