@@ -13,27 +13,12 @@ use Rattle.rules.specs.Language.{Expression, star, Word}
 use Rattle.matching.specs.Settled.{Kept, share, Passed}
 use Rattle.matching.proofs.Rounds.{Rounds, left, round_less, first_round, next_round, last_round}
 
--- ---- the first, and the others
-
-in_two : (kept : Kept) → 0 < length kept → kept ≡ get_or kept 0 [] ∷ drop 1 kept
-in_two kept l = drop-cons kept 0 [] l
-
--- where the first is written, the others stay
-others_stay : (kept : Kept) (v : List ℕ) → drop 1 (set kept 0 v) ≡ drop 1 kept
-others_stay [] v = refl
-others_stay (first ∷ others) v = refl
-
 -- what was lent from the a-th to the end comes back behind the first a
 comes_back : (a : ℕ) (kept others : Kept) → put_mid a (length kept - a) kept others ≡ take a kept ++ others
 comes_back a kept others =
     let none : length (drop a kept) ≤ length kept - a = omega (arith, length-drop a kept) in
     ap (λ (rest : Kept). take a kept ++ (others ++ rest)) (drop_of_length-le (drop a kept) none)
     ∙ ap (λ (all : Kept). take a kept ++ all) (append-nil others)
-
--- of the others, behind the first, which is as it was
-others_back : (kept others : Kept) → 0 < length kept → put_mid 1 (length kept - 1) kept others ≡ get_or kept 0 [] ∷ others
-others_back (first ∷ rest) others l = comes_back 1 (first ∷ rest) others
-others_back [] others l = absurd (omega (arith, l))
 
 -- ---- the sets for two operands
 
@@ -90,55 +75,3 @@ module _ (a : Expression) (kept first : Kept) {n : ℕ} (shared : n ≡ share a 
   undivided =
       let within : n ≤ length kept = omega (arith, shared) in
       divided (ap length (sym (others_lent kept first within fits)))
-
--- ---- the rounds of a star
-
--- Between two rounds: the first set has what was reached.
-pub record Standing (a : Expression) (w : Word) (kept₀ : Kept) (set₀ : List ℕ) (kept : Kept) (found fresh : List ℕ) : Type 0 where
-  pub long : length kept ≡ length kept₀
-  pub some : 0 < length kept
-  pub rounds : Rounds a w (drop 1 kept₀) (get_or kept₀ 0 []) set₀ (drop 1 kept) (get_or kept 0 []) found fresh
-
-module _ {a : Expression} {w : Word} where
-  -- before the first round: what is new was put into the first set
-  pub begins : (kept : Kept) {first reached : List ℕ} → 0 < length kept → Holds (λ k. In (get_or kept 0 []) k ⊎ In first k) reached
-      → Standing a w (set kept 0 reached) first (set kept 0 reached) first first
-  begins kept {first} {reached} some added = record {
-    long = refl;
-    some = omega (arith, length-set kept 0 reached);
-    rounds = first_round (λ k x. rw (get_or-set_same kept 0 reached [] some) ((added.exact k).1 (inr x)));
-  }
-
-  -- a round: the others come back with what it kept, and what is new is put into the first
-  module _ {kept₀ kept others : Kept} {set₀ found fresh led rest row : List ℕ} (stands : Standing a w kept₀ set₀ kept found fresh)
-      (passed : Passed a w (take (length kept - 1) (drop 1 kept)) fresh others led)
-      (new : Holds (λ k. In led k × ¬ In (get_or (put_mid 1 (length kept - 1) kept others) 0 []) k) rest)
-      (all : Holds (λ k. In (get_or (put_mid 1 (length kept - 1) kept others) 0 []) k ⊎ In rest k) row) where
-    pub goes_on : {found' : List ℕ} → length others ≡ length (take (length kept - 1) (drop 1 kept))
-        → Holds (λ k. In found k ⊎ In rest k) found' → Standing a w kept₀ set₀ (set (put_mid 1 (length kept - 1) kept others) 0 row) found' rest
-    goes_on same with_new =
-        let back = others_back kept others stands.some in
-        let size : length others ≡ length kept - 1 = same ∙ ap length (part_to_end kept 1) ∙ length-drop 1 kept in
-        let whole = length-set (put_mid 1 (length kept - 1) kept others) 0 row ∙ ap length back in
-        record {
-          long = omega (arith, stands.long, stands.some);
-          some = omega (arith, whole);
-          rounds = rw back (next_round stands.rounds (rw (part_to_end kept 1) at passed) (rw back at new) (rw back at all) with_new);
-        }
-
-    pub goes_less : Inside 4096 rest → Inside 4096 fresh → ¬ ((k : ℕ) → ¬ In fresh k)
-        → left (get_or (set (put_mid 1 (length kept - 1) kept others) 0 row) 0 []) rest < left (get_or kept 0 []) fresh
-    goes_less low low_fresh some =
-        let back = others_back kept others stands.some in
-        rw back (round_less (λ k x. (((rw back at new).exact k).0 x).1) (rw back at all) low low_fresh some)
-
-  -- after the last round
-  pub ends : (kept₀ : Kept) {kept : Kept} {set_given first reached found fresh : List ℕ} → 0 < length kept₀
-      → Holds (λ k. In set_given k × ¬ In (get_or kept₀ 0 []) k) first → Holds (λ k. In (get_or kept₀ 0 []) k ⊎ In first k) reached
-      → Standing a w (set kept₀ 0 reached) first kept found fresh → ((k : ℕ) → ¬ In fresh k) → Inside (length w + 1) set_given
-      → Passed (star a) w kept₀ set_given kept found
-  ends kept₀ {kept} {set_given} {first} {reached} {found} some taken added stands none places =
-      let rounds = rw (others_stay kept₀ reached, get_or-set_same kept₀ 0 reached [] some) at stands.rounds in
-      subst (λ (before : Kept). Passed (star a) w before set_given kept found) (sym (in_two kept₀ some))
-      (subst (λ (after : Kept). Passed (star a) w (get_or kept₀ 0 [] ∷ drop 1 kept₀) set_given after found) (sym (in_two kept stands.some))
-      (last_round taken added rounds none places))

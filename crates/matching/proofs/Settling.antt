@@ -8,6 +8,7 @@ use mathlib.Core.List.{List, [], ◌∷◌, ◌++◌}
 use lib.Dec.{T}
 use lib.ListN.{length, take, drop, length-append, length-take, length-drop}
 use lib.Seq.{take-append_seam, drop-append_seam, get_or-take, get_or-drop}
+use Rattle.std.specs.List.{FoldsTo}
 use Rattle.tree.proofs.Tests.{passes, or_test}
 use Rattle.query.proofs.Closure.{star_keeps}
 use Rattle.sets.specs.Sets.{In, Holds, Image, Inside}
@@ -44,6 +45,13 @@ and_more A set more joined k x = (in_those A more k).1 (⊎_elim inl (joined k) 
 pub one_cleared : {none : List ℕ} → Holds (λ k. ⊥) none → Cleared (none ∷ [])
 one_cleared none zero l k x = (none.exact k).0 x
 one_cleared none (suc i) l k x = absurd (omega (arith, l))
+
+-- each was put there by a call that gives one
+pub all_cleared : {S : Type 0} (R : S → List ℕ → S → Type 0) → ((f : S) (set : List ℕ) (g : S) → R f set g → Holds (λ k. ⊥) set)
+    → (f : S) (kept : Kept) (g : S) → FoldsTo R f kept g → Cleared kept
+all_cleared R none f [] g steps i l k x = absurd (omega (arith, l))
+all_cleared R none f (set ∷ kept) g (next, given, more) zero l k x = ((none f set next given).exact k).0 x
+all_cleared R none f (set ∷ kept) g (next, given, more) (suc i) l k x = all_cleared R none next kept g more i (omega arith) k x
 
 cleared_front : (kept : Kept) (n : ℕ) → Cleared kept → Cleared (take n kept)
 cleared_front kept n none i l k x =

@@ -39,12 +39,9 @@ pub record Counted (es : Entries) (counts : List ℕ) : Type 0 where
   pub long : length es ≤ length counts
   pub each : CountedTo es counts (length es)
 
--- what is asked: an entry of a table in order, of a set of places in a word, which is short enough for a set to hold them
-pub record Asked (rules : Bytes) (counts : List ℕ) (e : ℕ) (w : Word) (set : List ℕ) : Type 0 where
-  pub right : (i : ℕ) → i < length (entries rules) → EntryRight (entries rules) i
-  pub counted : Counted (entries rules) counts
+-- what is asked: an entry of the table, of a set of places in the word
+pub record Asked (rules : Bytes) (e : ℕ) (w : Word) (set : List ℕ) : Type 0 where
   pub entry : e < length (entries rules)
-  pub short : length w < 4096
   pub places : Inside (length w + 1) set
 
 -- as many of them as there are go to the first of two operands, the rest to the second

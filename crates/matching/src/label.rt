@@ -5,7 +5,6 @@ ghost use Rattle.steps.specs.Added.{Kept};
 ghost use Rattle.rules.specs.Language.{one};
 ghost use Rattle.matching.specs.Spans.{Spans, LabelAt, Used};
 
-
 // Whether the label stands at place p.
 fn stands_at(word: &[u8], label: usize, p: usize) -> bool
     ensures { T result ↔ LabelAt word.now label p }
@@ -43,11 +42,9 @@ pub(crate) fn go_over(word: &[u8], label: usize, set: &mut [u64; 64], used: usiz
 {
     let words: &mut [u64] = set;
     let mut last = 0;
-    let mut w = 0;
-    while w < used {
+    for w in 0..used {
         let kept = keep_digits(word, label, w, words[w]);
         words[w] = (kept << 1) | last;
         last = kept >> 63;
-        w += 1;
     }
 }

@@ -4,18 +4,19 @@ use mathlib.Core.Logic.Iff
 use Rattle.matching.proofs.Passing.{only_first, from_first}
 use Rattle.matching.proofs.matches.Goals as goal
 
+pub invariant_of-matching : goal.invariant_of-matching
+invariant_of-matching c = record {
+  right = λ i l. ∣ c.requires.by_index i l ∣₁;
+  counted = c.requires.counted;
+  holds = c.words_of.ensures;
+}
+
 pub pass_once-requires : goal.pass_once-requires
 pass_once-requires c =
     let first = only_first c.empty-set.ensures c.add.ensures in
-    record {
-      right = c.requires.by_index;
-      counted = c.requires.counted;
-      entry = c.requires.e_in_bounds;
-      short = c.requires.word_len_bound;
-      places = λ k x. omega (arith, (first.exact k).0 x);
-    }
+    record { entry = c.requires.e_in_bounds; places = λ k x. omega (arith, (first.exact k).0 x) }
 
 pub returns : goal.returns
 returns c =
     let first = only_first c.empty-set.ensures c.add.ensures in
-    Iff.trans c.is_reached.ensures (from_first first c.pass_once.ensures)
+    Iff.trans c.has.ensures (from_first first c.pass_once.ensures)

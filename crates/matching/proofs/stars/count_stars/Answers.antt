@@ -1,7 +1,7 @@
--- `count_stars`: the stars of one entry after the other. The measure is the number of entries that are left.
+-- `count_stars`: the stars of one entry after the other.
+use native.Mathlib.Omega.{arith}
 use mathlib.Core.Path.{refl}
 use lib.ListN.{length-set}
-use native.Mathlib.Omega.{arith}
 use borrow.Author.Count.{below_none}
 use Rattle.query.specs.Table.{entries}
 use Rattle.tables.proofs.Walk.{noted}
@@ -10,26 +10,21 @@ use Rattle.matching.specs.Settled.{stars}
 use Rattle.matching.proofs.stars.count_stars.Goals as goal
 
 pub loop-i-init : goal.loop-i-init
-loop-i-init c = record { within = omega arith; all = c.count-n.ensures; room = refl; counted = below_none _ }
+loop-i-init c = record { room = refl; counted = below_none _ }
 
 pub stars_of-requires : goal.stars_of-requires
-stars_of-requires c =
-    let right = c.requires.by_index in
-    record {
-      i_in_bounds = (omega arith, omega arith);
-      entry_right = right c.loop-i.i (omega arith);
-      counted_to = c.loop-i.invariant.counted;
-    }
+stars_of-requires c = record {
+  i_in_bounds = (omega arith, omega arith);
+  entry_right = c.requires.by_index c.loop-i.i (omega arith);
+  counted_to = c.loop-i.invariant.counted;
+}
 
 pub loop-i-preserved : goal.loop-i-preserved
 loop-i-preserved c =
     let here = c.loop-i.invariant in
-    let es = entries c.args.rules.now in
     record {
-      within = omega arith;
-      all = here.all;
       room = simp length-set here.room;
-      counted = noted (λ k. stars (expression_at es k)) c.loop-i.counts here.counted (omega arith) c.stars_of.ensures;
+      counted = noted (λ k. stars (expression_at (entries c.args.rules.now) k)) c.loop-i.counts here.counted (omega arith) c.stars_of.ensures;
     }
 
 pub returns : goal.returns

@@ -1,13 +1,10 @@
 -- The measures of `pass`, `pass_either`, `go_on` and `go_on_alone`, which call each other: the entry number falls; either stands above its
 -- two entries, and a star's rounds above their one. Between two rounds of a star `Standing` holds, and less is left with each.
 use Prim.Native.Nat.{◌+◌, ◌*◌, max}
-use mathlib.Core.List.{[]}
-use lib.ListN.{get_or}
 use Rattle.query.specs.Table.{entries}
 use Rattle.rules.specs.Table.{expression_at}
-use Rattle.matching.proofs.Rounds.{left}
-use Rattle.matching.proofs.Keeping.{Standing}
-use Rattle.matching.proofs.+asking.Given as goal
+use Rattle.matching.proofs.Rounds.{Rounds, left}
+use Rattle.matching.proofs.Matching.+asking.Given as goal
 
 abbrev pub decreases-go_on : goal.decreases-go_on
 decreases-go_on l = 3 * l.e + 1
@@ -23,7 +20,7 @@ decreases-pass_either l = 3 * max l.left l.right + 1
 
 abbrev pub invariant-go_on-loop-fresh : goal.invariant-go_on-loop-fresh
 invariant-go_on-loop-fresh l =
-    Standing (expression_at (entries l.rules) l.e) l.word l.initial.kept l.initial.set l.kept l.set l.fresh
+    Rounds (expression_at (entries l.self.rules.now) l.e) l.self.word.now l.initial.kept l.initial.reached l.initial.set l.kept l.reached l.set l.fresh
 
 abbrev pub decreases-go_on-loop-fresh : goal.decreases-go_on-loop-fresh
-decreases-go_on-loop-fresh l = left (get_or l.kept 0 []) l.fresh
+decreases-go_on-loop-fresh l = left l.reached l.fresh

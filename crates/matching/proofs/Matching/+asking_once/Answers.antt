@@ -10,8 +10,9 @@ use Rattle.rules.specs.Table.{expression_at}
 use Rattle.matching.specs.Settled.{Cleared}
 use Rattle.matching.proofs.Settling.{from_cleared}
 use Rattle.matching.proofs.Keeping.{first_back}
-use Rattle.matching.proofs.Passing.{of_kind, is_then, is_either, once_then, once_either, once_same}
-use Rattle.matching.proofs.+asking_once.Goals as goal
+use Rattle.rules.proofs.Standing.{stands}
+use Rattle.matching.proofs.Passing.{once_then, once_either, once_same}
+use Rattle.matching.proofs.Matching.+asking_once.Goals as goal
 
 -- ---- either of two entries
 
@@ -23,18 +24,18 @@ either_once-returns-then-left-right t c =
 pub either_once-returns-else-left-right : goal.either_once-returns-else-left-right
 either_once-returns-else-left-right t c =
     let same : c.args.left ≡ c.args.right = omega arith in
-    once_same (ap (expression_at (entries c.args.rules.now)) same) c.pass_once.ensures
+    once_same (ap (expression_at (entries c.args.self.now.rules.now)) same) c.pass_once.ensures
 
 -- ---- an arm for each kind
 
 -- one after another
-pub pass_once-returns-in-34 : goal.pass_once-returns-in-34
-pass_once-returns-in-34 t c =
-    rw (is_then (of_kind c.requires c.entry_at-entry.ensures c.in-34.is)).is (once_then c.pass_once.ensures c.pass_once-in-34.ensures)
+pub pass_once-returns-in-Then : goal.pass_once-returns-in-Then
+pass_once-returns-in-Then t c =
+    rw (stands _ _ c.requires.entry c.in-Then.ensures) (once_then c.pass_once.ensures c.pass_once-in-Then.ensures)
 
 -- either
-pub pass_once-returns-in-35 : goal.pass_once-returns-in-35
-pass_once-returns-in-35 t c = rw (is_either (of_kind c.requires c.entry_at-entry.ensures c.in-35.is)).is c.either_once.ensures
+pub pass_once-returns-in-Either : goal.pass_once-returns-in-Either
+pass_once-returns-in-Either t c = rw (stands _ _ c.requires.entry c.in-Either.ensures) c.either_once.ensures
 
 -- all others: so many sets are cleared for them, and those in front are the ones that are lent again
 pub pass_once-returns-in_default : goal.pass_once-returns-in_default
