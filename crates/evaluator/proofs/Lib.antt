@@ -5,3 +5,4 @@ pub mod Rounds
 pub mod Walks
 pub mod Stepping
 pub mod Operands
+pub mod Left

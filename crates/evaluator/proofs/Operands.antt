@@ -1,9 +1,10 @@
 -- What is known once an entry is read: what it stands for, by its kind, and that its operands can be asked in their turn. Assumes nothing.
-use Prim.Native.Nat.{ℕ, ◌+◌, ◌*◌, ◌≤◌, ◌<◌}
+use Prim.Native.Nat.{ℕ, ◌+◌, ◌*◌, ◌<◌}
 use native.Mathlib.Omega.{arith}
 use mathlib.Core.Path.{◌≡◌, refl}
 use mathlib.Core.Logic.{◌↔◌}
 use mathlib.Core.List.{List}
+use Rattle.std.proofs.Math.Option.{none}
 use lib.ListN.{length}
 use Rattle.reply.specs.Bytes.{Bytes}
 use Rattle.roll.specs.Roll.{nodes}
@@ -12,74 +13,41 @@ use Rattle.roll.proofs.Deciding.{roll_in_order}
 use Rattle.query.specs.Syntax as syntax
 use Rattle.query.specs.Syntax.{Path}
 use Rattle.query.specs.Meaning.{reach}
-use Rattle.query.specs.Kind.{Sort, path, filter, of, kinds, find}
+use Rattle.query.specs.Kind.{Sort, path, of, kinds, find, row_of}
 use Rattle.query.specs.Table as table
-use Rattle.query.specs.Table.{entries, entry_at, OperandField, EntryRight, the_path, the_filter, build, path_at, filter_at}
+use Rattle.query.specs.Table.{entries, entry_at, row_at, OperandField, EntryRight, the_path, the_filter, build, path_at, filter_at}
 use Rattle.query.proofs.Standing as standing
 use Rattle.sets.specs.Sets.{Inside}
 use Rattle.tables.specs.Fields.{Fields}
 use Rattle.tables.specs.declared.entry.Entry.{Entry}
-use Rattle.steps.specs.declared.axis.Axis.{Axis}
+use Rattle.tables.specs.Promise.{EntriesRight}
 use Rattle.evaluator.proofs.Walks.{Then}
 use Rattle.evaluator.specs.declared.course.Course.{Course}
 use Rattle.evaluator.specs.declared.course.Course.TheVariants.{Forwards, Backwards, Freely}
-use Rattle.evaluator.specs.Course.{facing, path_of, first_of, OfKind}
-use Rattle.tables.specs.Promise.{EntriesRight}
-use Rattle.evaluator.specs.Evaluator.{Knowing, Within, Asked, Still}
+use Rattle.evaluator.specs.declared.entry.PathEntry.TheVariants as paths
+use Rattle.evaluator.specs.declared.entry.FilterEntry.TheVariants as filters
+use Rattle.evaluator.specs.declared.evaluation.Evaluation.{Evaluation}
+use Rattle.evaluator.specs.Course.{facing, first_of}
+use Rattle.evaluator.specs.Entry.{Part, Parts, ForPath, ForFilter}
+use Rattle.evaluator.specs.Evaluation.{Asks}
+use Rattle.evaluator.specs.Evaluator.{Within}
 use Rattle.evaluator.proofs.Images.{Stays}
-use Rattle.evaluator.proofs.Walks.{walk_stays, stay_still, then_parts}
+use Rattle.evaluator.proofs.Walks.{walk_stays, then_parts}
 
 -- the entry that a struct holds
 abbrev entry_of : Entry → table.Entry
 entry_of read = record { kind = read.kind; label = read.label; left = read.left; right = read.right }
 
--- a path's number that is none of those from 6 on is below them
-pub none_behind : {n : ℕ} → n ≤ 9 → ¬ (n ≡ 6) → ¬ (n ≡ 7) → ¬ (n ≡ 8) → ¬ (n ≡ 9) → n < 6
-none_behind l a b c d = omega arith
+-- an operand of an entry is an earlier one
+part : {tab : Bytes} {s o : Sort} {e x : ℕ} → Within tab s e → OperandField (entries tab) e (of o) x → Part tab e o x
+unfolding OperandField
+part w (l, h) = record { earlier = l; entry = record { within = omega (arith, w.within); sort = h } }
 
 -- The entry that a function has read, of a table in order.
 pub record Read (tab : Bytes) (s : Sort) (e : ℕ) (read : Entry) : Type 0 where
   pub order : EntriesRight tab
   pub entry : Within tab s e
   pub fields : Fields (entry_at (entries tab) e) read
-
--- An operand is an earlier entry
-pub operand_within : {tab : Bytes} {s o : Sort} {e x : ℕ} → Within tab s e → OperandField (entries tab) e (of o) x → (x < e) × Within tab o x
-unfolding OperandField
-operand_within w (l, h) = (l, record { within = omega (arith, w.within); sort = h })
-
--- What a function of the evaluator has once it has read the entry that is asked of a set of nodes.
-pub record Opened (roll tab : Bytes) (links : List ℕ) (known : ℕ) (holding : List ℕ) (s : Sort) (e : ℕ) (from : List ℕ)
-    (row : Entry) : Type 0 where
-  pub given : Knowing roll tab links known holding
-  pub asked : Asked roll tab s e from
-  pub fields : Fields (entry_at (entries tab) e) row
-
-module _ {roll tab : Bytes} {links : List ℕ} {known : ℕ} {holding : List ℕ} {s : Sort} {e : ℕ} {from : List ℕ} {row : Entry}
-    (k : Opened roll tab links known holding s e from row) where
-  pub read : Read tab s e row
-  read = record { order = k.given.grounds.each; entry = k.asked.entry; fields = k.fields }
-
-  -- a path stays among the nodes
-  pub path_stays : (p : Path) → Stays (length (nodes roll)) (reach (nodes roll) p)
-  path_stays p = walk_stays _ (roll_in_order k.given.grounds.roll_right) p
-
-  -- an operand is asked of nodes in its turn: four times its number, and three more for a star above it, is below four times e
-  pub operand : {o : Sort} {x t : ℕ} {set : List ℕ} → 4 * e ≡ t → OperandField (entries tab) e (of o) x → Inside (length (nodes roll)) set
-      → (4 * x + 3 < t) × (Knowing roll tab links known holding × Asked roll tab o x set)
-  operand m f inside =
-      let (l, w) = operand_within k.asked.entry f in
-      (omega arith, (k.given, record { entry = w; nodes_only = inside }))
-
-  pub operand_below : {o : Sort} {x t : ℕ} {set : List ℕ} → 4 * e ≡ t → OperandField (entries tab) e (of o) x
-      → Inside (length (nodes roll)) set
-      → (4 * x < t) × (Knowing roll tab links known holding × Asked roll tab o x set)
-  operand_below m f inside = let (l, more) = operand m f inside in (omega arith, more)
-
-  -- it may be asked of the same nodes
-  pub operand_same : {o : Sort} {x t : ℕ} → 4 * e ≡ t → OperandField (entries tab) e (of o) x
-      → (4 * x < t) × (Knowing roll tab links known holding × Asked roll tab o x from)
-  operand_same m f = operand_below m f k.asked.nodes_only
 
 module _ {tab : Bytes} {s : Sort} {e : ℕ} {read : Entry} (k : Read tab s e read) where
   -- it is the table's
@@ -89,45 +57,58 @@ module _ {tab : Bytes} {s : Sort} {e : ℕ} {read : Entry} (k : Read tab s e rea
   right : EntryRight (entries tab) e
   right = k.order e k.entry.within
 
+  -- the list has its kind
+  pub listed : ¬ (row_of read.kind ≡ none)
+  unfolding row_at
+  listed out = let row = k.entry.sort.listed in let same = rw k.fields.kind at out in cc
+
+  -- one operand, or two of one sort
+  one : {o : Sort} {P : Type 0} → OperandField (entries tab) e (of o) read.left × P → Part tab e o read.left × P
+  one (l, same) = (part k.entry l, same)
+
+  two : {o : Sort} {P : Type 0} → (OperandField (entries tab) e (of o) read.left × OperandField (entries tab) e (of o) read.right) × P
+      → Parts tab e o read.left read.right × P
+  two ((l, r), same) = (record { left = part k.entry l; right = part k.entry r }, same)
+
   -- what the entry stands for
-  pub is_self : read.kind ≡ 1 → path_at (entries tab) e ≡ syntax.self
+  pub is_itself : read.kind ≡ 1 → path_at (entries tab) e ≡ syntax.self
   unfolding kinds find build the_path
-  is_self is = standing.path_stands (entries tab) e k.entry.within (entry_of read) same_entry 1 _ refl is
+  is_itself is = standing.path_stands (entries tab) e k.entry.within (entry_of read) same_entry 1 _ refl is
 
-  pub is_axis : {axis : Axis} → OfKind read.kind axis → path_at (entries tab) e ≡ path_of axis
+  pub is_child : read.kind ≡ 2 → path_at (entries tab) e ≡ syntax.child
   unfolding kinds find build the_path
-  is_axis (OfKind.child is) = standing.path_stands (entries tab) e k.entry.within (entry_of read) same_entry 2 _ refl is
-  is_axis (OfKind.parent is) = standing.path_stands (entries tab) e k.entry.within (entry_of read) same_entry 3 _ refl is
-  is_axis (OfKind.next is) = standing.path_stands (entries tab) e k.entry.within (entry_of read) same_entry 4 _ refl is
-  is_axis (OfKind.previous is) = standing.path_stands (entries tab) e k.entry.within (entry_of read) same_entry 5 _ refl is
+  is_child is = standing.path_stands (entries tab) e k.entry.within (entry_of read) same_entry 2 _ refl is
 
-  -- both operands are earlier entries of the sort
-  abbrev pub Both : Sort → Type 0
-  Both o = OperandField (entries tab) e (of o) read.left × OperandField (entries tab) e (of o) read.right
+  pub is_parent : read.kind ≡ 3 → path_at (entries tab) e ≡ syntax.parent
+  unfolding kinds find build the_path
+  is_parent is = standing.path_stands (entries tab) e k.entry.within (entry_of read) same_entry 3 _ refl is
 
-  pub is_stay : read.kind ≡ 6
-      → OperandField (entries tab) e (of filter) read.left × (path_at (entries tab) e ≡ syntax.stay (filter_at (entries tab) read.left))
-  is_stay is = standing.stay_stands (entries tab) e k.entry.within (entry_of read) same_entry right is
+  pub is_next : read.kind ≡ 4 → path_at (entries tab) e ≡ syntax.next
+  unfolding kinds find build the_path
+  is_next is = standing.path_stands (entries tab) e k.entry.within (entry_of read) same_entry 4 _ refl is
 
-  pub is_then : read.kind ≡ 7
-      → Both path × (path_at (entries tab) e ≡ syntax.then (path_at (entries tab) read.left) (path_at (entries tab) read.right))
-  is_then is = standing.then_stands (entries tab) e k.entry.within (entry_of read) same_entry right is
+  pub is_previous : read.kind ≡ 5 → path_at (entries tab) e ≡ syntax.previous
+  unfolding kinds find build the_path
+  is_previous is = standing.path_stands (entries tab) e k.entry.within (entry_of read) same_entry 5 _ refl is
 
-  pub is_either : read.kind ≡ 8
-      → Both path × (path_at (entries tab) e ≡ syntax.either (path_at (entries tab) read.left) (path_at (entries tab) read.right))
-  is_either is = standing.either_stands (entries tab) e k.entry.within (entry_of read) same_entry right is
+  pub is_stay : read.kind ≡ 6 → ForPath tab e (paths.Stay read.left)
+  is_stay is = one (standing.stay_stands (entries tab) e k.entry.within (entry_of read) same_entry right is)
 
-  pub is_star : read.kind ≡ 9
-      → OperandField (entries tab) e (of path) read.left × (path_at (entries tab) e ≡ syntax.star (path_at (entries tab) read.left))
-  is_star is = standing.star_stands (entries tab) e k.entry.within (entry_of read) same_entry right is
+  pub is_then : read.kind ≡ 7 → ForPath tab e (paths.Then read.left read.right)
+  is_then is = two (standing.then_stands (entries tab) e k.entry.within (entry_of read) same_entry right is)
+
+  pub is_either : read.kind ≡ 8 → ForPath tab e (paths.Either read.left read.right)
+  is_either is = two (standing.either_stands (entries tab) e k.entry.within (entry_of read) same_entry right is)
+
+  pub is_star : read.kind ≡ 9 → ForPath tab e (paths.Star read.left)
+  is_star is = one (standing.star_stands (entries tab) e k.entry.within (entry_of read) same_entry right is)
 
   pub is_labelled : read.kind ≡ 16 → filter_at (entries tab) e ≡ syntax.labelled read.label
   unfolding kinds find build the_filter
   is_labelled is = standing.filter_stands (entries tab) e k.entry.within (entry_of read) same_entry 16 _ refl is
 
-  pub is_leads : read.kind ≡ 17
-      → OperandField (entries tab) e (of path) read.left × (filter_at (entries tab) e ≡ syntax.leads (path_at (entries tab) read.left))
-  is_leads is = standing.leads_stands (entries tab) e k.entry.within (entry_of read) same_entry right is
+  pub is_leads : read.kind ≡ 17 → ForFilter tab e (filters.Leads read.left)
+  is_leads is = one (standing.leads_stands (entries tab) e k.entry.within (entry_of read) same_entry right is)
 
   pub is_always : read.kind ≡ 18 → filter_at (entries tab) e ≡ syntax.always
   unfolding kinds find build the_filter
@@ -137,46 +118,54 @@ module _ {tab : Bytes} {s : Sort} {e : ℕ} {read : Entry} (k : Read tab s e rea
   unfolding kinds find build the_filter
   is_never is = standing.filter_stands (entries tab) e k.entry.within (entry_of read) same_entry 19 _ refl is
 
-  pub is_not : read.kind ≡ 20
-      → OperandField (entries tab) e (of filter) read.left × (filter_at (entries tab) e ≡ syntax.not (filter_at (entries tab) read.left))
-  is_not is = standing.not_stands (entries tab) e k.entry.within (entry_of read) same_entry right is
+  pub is_not : read.kind ≡ 20 → ForFilter tab e (filters.Not read.left)
+  is_not is = one (standing.not_stands (entries tab) e k.entry.within (entry_of read) same_entry right is)
 
-  pub is_and : read.kind ≡ 21
-      → Both filter × (filter_at (entries tab) e ≡ syntax.and (filter_at (entries tab) read.left) (filter_at (entries tab) read.right))
-  is_and is = standing.and_stands (entries tab) e k.entry.within (entry_of read) same_entry right is
+  pub is_and : read.kind ≡ 21 → ForFilter tab e (filters.And read.left read.right)
+  is_and is = two (standing.and_stands (entries tab) e k.entry.within (entry_of read) same_entry right is)
 
-  pub is_or : read.kind ≡ 22
-      → Both filter × (filter_at (entries tab) e ≡ syntax.or (filter_at (entries tab) read.left) (filter_at (entries tab) read.right))
-  is_or is = standing.or_stands (entries tab) e k.entry.within (entry_of read) same_entry right is
+  pub is_or : read.kind ≡ 22 → ForFilter tab e (filters.Or read.left read.right)
+  is_or is = two (standing.or_stands (entries tab) e k.entry.within (entry_of read) same_entry right is)
 
--- a filter's entry stays where it is, on every course
-pub stays_at : {tab : Bytes} {x : ℕ} → EntriesRight tab → Within tab path x → (entry_at (entries tab) x).kind ≡ 6
-    → (course : Course) → Still (facing course (path_at (entries tab) x))
-stays_at {tab} {x} order w is course =
-    rw (standing.stay_stands (entries tab) x w.within (entry_at (entries tab) x) refl (order x w.within) is).1 (stay_still course _)
+module _ {on : Evaluation} {s : Sort} {e : ℕ} {from : List ℕ} (k : Asks on s e from) where
+  -- a path stays among the nodes
+  pub path_stays : (p : Path) → Stays (length (nodes on.roll.now)) (reach (nodes on.roll.now) p)
+  path_stays p = walk_stays _ (roll_in_order k.given.grounds.roll_right) p
+
+  -- an operand is asked of nodes in its turn: four times its number, and three more for a star above it, is below four times e
+  pub operand : {o : Sort} {x t : ℕ} {set : List ℕ} → 4 * e ≡ t → Part on.table.now e o x → Inside (length (nodes on.roll.now)) set
+      → (4 * x + 3 < t) × Asks on o x set
+  operand m f inside =
+      (omega (arith, f.earlier), record { given = k.given; asked = record { entry = f.entry; nodes_only = inside } })
+
+  pub operand_below : {o : Sort} {x t : ℕ} {set : List ℕ} → 4 * e ≡ t → Part on.table.now e o x → Inside (length (nodes on.roll.now)) set
+      → (4 * x < t) × Asks on o x set
+  operand_below m f inside = let (l, more) = operand m f inside in (omega arith, more)
+
+  -- it may be asked of the same nodes
+  pub operand_same : {o : Sort} {x t : ℕ} → 4 * e ≡ t → Part on.table.now e o x → (4 * x < t) × Asks on o x from
+  operand_same m f = operand_below m f k.asked.nodes_only
 
 -- the path of entry e is that of entry `first` and then that of entry `second`, on a course
-pub record Parts (table : Bytes) (course : Course) (e first second : ℕ) : Type 0 where
-  pub one : OperandField (entries table) e (of path) first
-  pub other : OperandField (entries table) e (of path) second
+pub record InTurn (tab : Bytes) (course : Course) (e first second : ℕ) : Type 0 where
+  pub one : Part tab e path first
+  pub other : Part tab e path second
   pub same : (t : Tree) (i j : ℕ)
-      → reach t (facing course (path_at (entries table) e)) i j
-      ↔ Then (reach t (facing course (path_at (entries table) first))) (reach t (facing course (path_at (entries table) second))) i j
+      → reach t (facing course (path_at (entries tab) e)) i j
+      ↔ Then (reach t (facing course (path_at (entries tab) first))) (reach t (facing course (path_at (entries tab) second))) i j
 
 -- the two parts of a composition, in the order of the course
-pub parts_of : {tab : Bytes} {e : ℕ} {read : Entry} → Read tab path e read → read.kind ≡ 7 → (course : Course) {first second : ℕ}
-    → first ≡ first_of course read.left read.right → second ≡ first_of course read.right read.left → Parts tab course e first second
-parts_of {tab} {e} {read} k is course one other =
-    let (l, r) = (is_then k is).0 in
+pub in_turn : {tab : Bytes} {e left right : ℕ} → ForPath tab e (paths.Then left right) → (course : Course) {first second : ℕ}
+    → first ≡ first_of course left right → second ≡ first_of course right left → InTurn tab course e first second
+in_turn {tab} {e} {left} {right} (parts, is) course one other =
     rw (one, other)
     (record {
-      one = either _ _ course l r;
-      other = either _ _ course r l;
-      same = λ t i j. rw (is_then k is).1 (then_parts (path_at (entries tab)) course read.left read.right t i j);
+      one = either _ _ course parts.left parts.right;
+      other = either _ _ course parts.right parts.left;
+      same = λ t i j. rw is (then_parts (path_at (entries tab)) course left right t i j);
     })
   where
-    either : (x y : ℕ) (course : Course) → OperandField (entries tab) e (of path) x → OperandField (entries tab) e (of path) y
-        → OperandField (entries tab) e (of path) (first_of course x y)
+    either : (x y : ℕ) (course : Course) → Part tab e path x → Part tab e path y → Part tab e path (first_of course x y)
     either _ _ Forwards x y = x
     either _ _ Backwards x y = y
     either _ _ Freely x y = x

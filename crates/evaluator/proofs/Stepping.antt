@@ -14,14 +14,14 @@ use Rattle.steps.specs.Star.{StepFrom}
 use Rattle.steps.specs.declared.axis.Axes.{Axes}
 use Rattle.steps.proofs.SeveralAxes.{any_node, any_end}
 use Rattle.evaluator.proofs.Walks.{Then}
-use Rattle.evaluator.specs.declared.ways.Way.TheVariants.{Along}
+use Rattle.std.specs.Prelude.{Some}
 use Rattle.evaluator.specs.Ways.{Leads}
 use Rattle.evaluator.proofs.Images.{Stays, image_star}
 use Rattle.evaluator.proofs.Filtered.{From}
 
 -- a choice of paths that lead along axes leads along the axes of either
-pub choice_leads : {a b r : Axes} (p q : Path) → Leads p (Along a) → Leads q (Along b)
-    → ((t : Tree) (i j : ℕ) → AlongAny t r i j ↔ (AlongAny t a i j ⊎ AlongAny t b i j)) → Leads (either p q) (Along r)
+pub choice_leads : {a b r : Axes} (p q : Path) → Leads p (Some a) → Leads q (Some b)
+    → ((t : Tree) (i j : ℕ) → AlongAny t r i j ↔ (AlongAny t a i j ⊎ AlongAny t b i j)) → Leads (either p q) (Some r)
 unfolding reach
 choice_leads p q x y both t i j =
     Iff.trans (both t i j) (⊎_map (x t i j).0 (y t i j).0, ⊎_map (x t i j).1 (y t i j).1)
@@ -45,10 +45,10 @@ module _ {t : Tree} (o : InOrder t) (most : length t ≤ 4096) where
   steps_stay i j l s = any_end t o s
 
 -- of one path and then another, either may be put for axes along which it leads
-pub then_along : {t : Tree} {axes : Axes} (p : Path) (R : ℕ → ℕ → Type 0) → Leads p (Along axes) → (i j : ℕ)
+pub then_along : {t : Tree} {axes : Axes} (p : Path) (R : ℕ → ℕ → Type 0) → Leads p (Some axes) → (i j : ℕ)
     → Then R (AlongAny t axes) i j ↔ Then R (reach t p) i j
 then_along {t} p R leads i j = (λ (k, x, y). (k, x, (leads t k j).0 y), λ (k, x, y). (k, x, (leads t k j).1 y))
 
-pub along_then : {t : Tree} {axes : Axes} (p : Path) (R : ℕ → ℕ → Type 0) → Leads p (Along axes) → (i j : ℕ)
+pub along_then : {t : Tree} {axes : Axes} (p : Path) (R : ℕ → ℕ → Type 0) → Leads p (Some axes) → (i j : ℕ)
     → Then (AlongAny t axes) R i j ↔ Then (reach t p) R i j
 along_then {t} p R leads i j = (λ (k, x, y). (k, (leads t i k).0 x, y), λ (k, x, y). (k, (leads t i k).1 x, y))

@@ -1,10 +1,8 @@
 -- The image of a set under each kind of path, on each course. Assumes nothing.
 use Prim.Native.Nat.{ℕ}
-use native.Mathlib.Omega.{arith}
-use mathlib.Core.Path.{◌≡◌, refl, sym}
+use mathlib.Core.Path.{◌≡◌, refl}
 use mathlib.Core.Logic.Iff
-use mathlib.Core.Logic.{◌↔◌, ◌⊎◌}
-use mathlib.Core.Bool.{Bool, true, false}
+use mathlib.Core.Logic.{◌↔◌, ◌⊎◌, inl, inr}
 use mathlib.Core.List.{List}
 use lib.ListN.{length}
 use Rattle.tree.specs.Tree.{Tree, InOrder}
@@ -19,27 +17,13 @@ use Rattle.steps.specs.declared.axis.Axis.{Axis}
 use Rattle.steps.specs.declared.axis.Axis.TheVariants.{Child, Parent, Next, Previous}
 use Rattle.evaluator.specs.declared.course.Course.{Course}
 use Rattle.evaluator.specs.declared.course.Course.TheVariants.{Forwards, Backwards, Freely}
-use Rattle.evaluator.specs.Course.{facing, path_of, backwards, freely, first_of}
+use Rattle.evaluator.specs.Course.{facing, path_of, first_of}
 use Rattle.evaluator.specs.Evaluator.{Still}
 use Rattle.evaluator.proofs.Images.{Stays, image_self, image_stay, image_either, image_star_star}
 
 -- one relation and then another
 abbrev pub Then : (ℕ → ℕ → Type 0) → (ℕ → ℕ → Type 0) → ℕ → ℕ → Type 0
 Then R Q i j = (k : ℕ) × R i k × Q k j
-
-true≢false : ¬ (◌≡◌ {A = Bool} true false)
-true≢false e = let z : ◌≡◌ {A = ℕ} 0 1 = cc in omega arith
-
--- which of two comes first
-pub first_back : (course : Course) (left right : ℕ) → backwards course ≡ true → right ≡ first_of course left right
-first_back Forwards left right e = absurd (true≢false (sym e))
-first_back Backwards left right e = refl
-first_back Freely left right e = absurd (true≢false (sym e))
-
-pub first_forth : (course : Course) (left right : ℕ) → backwards course ≡ false → left ≡ first_of course left right
-first_forth Forwards left right e = refl
-first_forth Backwards left right e = absurd (true≢false e)
-first_forth Freely left right e = refl
 
 -- a choice faces as its parts do
 pub facing_either : (course : Course) (p q : Path) → either (facing course p) (facing course q) ≡ facing course (either p q)
@@ -82,20 +66,19 @@ module _ (t : Tree) where
   axis_leads Previous i j = Iff.rfl
 
   -- on every course but backwards, and backwards
-  pub axis_faces : (course : Course) (axis : Axis) → backwards course ≡ false → (i j : ℕ) → Along t axis i j ↔ reach t (facing course (path_of axis)) i j
-  unfolding free
-  axis_faces Forwards axis e = axis_leads axis
-  axis_faces Backwards axis e = absurd (true≢false e)
-  axis_faces Freely Child e = axis_leads Child
-  axis_faces Freely Parent e = axis_leads Parent
-  axis_faces Freely Next e = axis_leads Next
-  axis_faces Freely Previous e = axis_leads Previous
+  pub axis_forwards : (axis : Axis) (i j : ℕ) → Along t axis i j ↔ reach t (facing Forwards (path_of axis)) i j
+  axis_forwards axis = axis_leads axis
 
-  pub axis_turned : (course : Course) (axis way : Axis) → backwards course ≡ true → ((i j : ℕ) → Along t way i j ↔ Along t axis j i)
-      → (i j : ℕ) → Along t way i j ↔ reach t (facing course (path_of axis)) i j
-  axis_turned Forwards axis way e turned i j = absurd (true≢false (sym e))
-  axis_turned Backwards axis way e turned i j = Iff.trans (turned i j) (Iff.trans (axis_leads axis j i) (Iff.symm (turn_right t (path_of axis) i j)))
-  axis_turned Freely axis way e turned i j = absurd (true≢false (sym e))
+  pub axis_freely : (axis : Axis) (i j : ℕ) → Along t axis i j ↔ reach t (facing Freely (path_of axis)) i j
+  unfolding free
+  axis_freely Child = axis_leads Child
+  axis_freely Parent = axis_leads Parent
+  axis_freely Next = axis_leads Next
+  axis_freely Previous = axis_leads Previous
+
+  pub axis_backwards : (axis way : Axis) → ((i j : ℕ) → Along t way i j ↔ Along t axis j i)
+      → (i j : ℕ) → Along t way i j ↔ reach t (facing Backwards (path_of axis)) i j
+  axis_backwards axis way turned i j = Iff.trans (turned i j) (Iff.trans (axis_leads axis j i) (Iff.symm (turn_right t (path_of axis) i j)))
 
   module _ {from : List ℕ} where
     pub walk_self : (course : Course) → Walked course self from from
@@ -105,17 +88,17 @@ module _ (t : Tree) where
     walk_self Freely = image_self
 
     -- a filter taken to hold keeps the set
-    pub walk_free : (course : Course) (f : Filter) → freely course ≡ true → Walked course (stay f) from from
+    pub walk_free : (f : Filter) → Walked Freely (stay f) from from
     unfolding reach free
-    walk_free Forwards f e = absurd (true≢false (sym e))
-    walk_free Backwards f e = absurd (true≢false (sym e))
-    walk_free Freely f e = image_self
+    walk_free f = image_self
 
-    pub walk_stay : (course : Course) (f : Filter) {r : List ℕ} → freely course ≡ false → Narrowed (holds t f) from r → Walked course (stay f) from r
+    pub walk_stay : (course : Course) (f : Filter) {r : List ℕ} → (course ≡ Forwards) ⊎ (course ≡ Backwards) → Narrowed (holds t f) from r
+        → Walked course (stay f) from r
     unfolding reach turn
     walk_stay Forwards f e n = image_stay n
     walk_stay Backwards f e n = image_stay n
-    walk_stay Freely f e n = absurd (true≢false e)
+    walk_stay Freely f (inl e) n = cc
+    walk_stay Freely f (inr e) n = cc
 
     module _ (p q : Path) where
       pub walk_either : (course : Course) {one other r : List ℕ} → Walked course p from one → Walked course q from other

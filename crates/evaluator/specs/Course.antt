@@ -1,5 +1,5 @@
 -- The courses on which a path is walked, each as a path that is walked forwards.
-use Rattle.std.specs.Prelude.{ℕ, ◌≡◌, Bool, true, false}
+use Rattle.std.specs.Prelude.{ℕ}
 use Rattle.query.specs.Syntax as syntax
 use Rattle.query.specs.Syntax.{Path}
 use Rattle.query.specs.Turn.{turn, free}
@@ -20,16 +20,6 @@ facing Freely p = free p
 abbrev pub walked : Entries → Walk → Path
 walked es walk = facing walk.course (path_at es walk.entry)
 
-abbrev pub backwards : Course → Bool
-backwards Forwards = false
-backwards Backwards = true
-backwards Freely = false
-
-abbrev pub freely : Course → Bool
-freely Forwards = false
-freely Backwards = false
-freely Freely = true
-
 -- the one of two that comes first
 abbrev pub first_of : Course → ℕ → ℕ → ℕ
 first_of Forwards left right = left
@@ -42,10 +32,3 @@ path_of Child = syntax.child
 path_of Parent = syntax.parent
 path_of Next = syntax.next
 path_of Previous = syntax.previous
-
--- the axis of a kind, in the order of the list of kinds
-pub data OfKind : ℕ → Axis → Type 0 where
-  child : {kind : ℕ} → kind ≡ 2 → OfKind kind Child
-  parent : {kind : ℕ} → kind ≡ 3 → OfKind kind Parent
-  next : {kind : ℕ} → kind ≡ 4 → OfKind kind Next
-  previous : {kind : ℕ} → kind ≡ 5 → OfKind kind Previous

@@ -1,3 +1,5 @@
 pub mod Course
+pub mod Entry
 pub mod Evaluator
+pub mod Evaluation
 pub mod Ways

@@ -1,14 +1,10 @@
 -- `way`: an axis leads where its path does, and turned round where its path turned round does.
-use mathlib.Core.Path.{sym, ◌∙◌}
-use Rattle.evaluator.proofs.Walks.{axis_faces, axis_turned}
+use mathlib.Core.Logic.{⊎_elim}
+use Rattle.evaluator.proofs.Walks.{axis_forwards, axis_freely, axis_backwards}
 use Rattle.evaluator.proofs.course.way.Goals as goal
 
-pub returns-then-is_back : goal.returns-then-is_back
-returns-then-is_back c t =
-    let a = c.args in
-    axis_turned t a.course a.axis c.turned.result (sym c.is_back.ensures ∙ c.if-is_back.true) (c.turned.ensures t)
+pub returns-in-Forwards : goal.returns-in-Forwards
+returns-in-Forwards c t = ⊎_elim (λ is. rw is (axis_forwards t c.args.axis)) (λ is. rw is (axis_freely t c.args.axis)) c.in-Forwards.is
 
-pub returns-else-is_back : goal.returns-else-is_back
-returns-else-is_back c t =
-    let a = c.args in
-    axis_faces t a.course a.axis (sym c.is_back.ensures ∙ c.if-is_back.false)
+pub returns-in-Backwards : goal.returns-in-Backwards
+returns-in-Backwards c t = rw c.in-Backwards.is (axis_backwards t c.args.axis c.turned.result (c.turned.ensures t))
