@@ -1,39 +1,28 @@
--- A text that grows byte by byte at the front of its buffer. Assumes nothing.
-use Prim.Native.Nat.{ℕ, suc, ◌+◌, ◌<◌}
+-- A text to which one part is written behind another. Assumes nothing.
+use Prim.Native.Nat.{◌<◌}
 use native.Mathlib.Omega.{arith}
-use mathlib.Core.Path.{◌≡◌, refl, ◌∙◌, subst}
-use mathlib.Core.List.{[], ◌∷◌, ◌++◌, append_assoc}
-use lib.ListN.{length, take, set, length-append, length-set}
-use lib.Seq.{take-suc, take-set-le, get_or-set_same}
+use mathlib.Core.Path.{◌≡◌}
+use mathlib.Core.List.{◌++◌, append_assoc}
+use lib.ListN.{length, length-append}
+use Rattle.std.specs.Prelude.{Result, Ok, Err, IsErrAnd}
+use Rattle.std.proofs.lemmas.Result.{err_from_is_err_and}
 use Rattle.reply.specs.Bytes.{Bytes}
-use Rattle.printer.specs.Printing.{Holds, up_to, no_room, Goes}
+use Rattle.printer.specs.declared.writing.TooLong.{TooLong}
+use Rattle.printer.specs.Printing.{Goes}
 
--- one byte, behind a text that leaves room for it
-pub one_more : (b n : ℕ) (before : Bytes) → length before ≡ 1024 → n < 1024 → Goes (b ∷ []) before n (n + 1) (set before n b)
-one_more b n before size l = record { on = grown }
-  where
-    front : {x : Bytes} → take n before ≡ x → take (suc n) (set before n b) ≡ x ++ b ∷ []
-    front h =
-        take-suc (set before n b) n 0 (omega (arith, length-set before n b))
-        ∙ rw (take-set-le n before n b (omega arith), h, get_or-set_same before n b 0 (omega arith))
+-- The first part of a text.
+module _ {s x middle : Bytes} {first : Result Unit TooLong} (goes : Goes s x first middle) (u : Bytes) where
+  -- it fits, and the second one comes behind it
+  pub and_then : {fits : Unit} {r : Result Unit TooLong} {after : Bytes} → first ≡ Ok fits → Goes u middle r after → Goes (s ++ u) x r after
+  and_then {r = r} e h =
+      let there : middle ≡ x ++ s = (rw e at goes.fits).0 in
+      let whole : middle ++ u ≡ x ++ (s ++ u) = rw there (append_assoc x s u) in
+      record { fits = rw whole at h.fits; full = rw whole at h.full }
 
-    grown : (x : Bytes) → Holds x n before → Holds (x ++ b ∷ []) (n + 1) (set before n b)
-    grown x (up_to e m h) =
-        let longer = length-append x (b ∷ []) in
-        let next : suc n ≡ n + 1 = omega arith in
-        up_to {n = n + 1} (omega arith) (omega arith) (rw next at (front h))
-    grown x (no_room e h) = absurd (omega arith)
-
--- bytes that do not fit, and bytes behind a text that does not
-pub too_long : (s before : Bytes) {n : ℕ} {after : Bytes} → 1024 < n + length s → Goes s before n 1025 after
-too_long s before {n} {after} l = record { on = grown }
-  where
-    grown : (x : Bytes) → Holds x n before → Holds (x ++ s) 1025 after
-    grown x (up_to e m h) = no_room refl (omega (arith, length-append x s))
-    grown x (no_room e h) = no_room refl (omega (arith, length-append x s))
-
--- one text and then another
-pub and_then : {s u before middle after : Bytes} {n m k : ℕ} → Goes s before n m middle → Goes u middle m k after
-    → Goes (s ++ u) before n k after
-and_then {s} {u} {after = after} {k = k} f g =
-    record { on = λ x h. subst (λ (t : Bytes). Holds t k after) (append_assoc x s u) (g.on (x ++ s) (f.on x h)) }
+  -- it does not fit, and nor does the whole
+  pub too_long : {full : TooLong} {r : Result Unit TooLong} {again : TooLong} {after : Bytes} → first ≡ Err full
+      → IsErrAnd r (λ more. more ≡ again) → Goes (s ++ u) x r after
+  too_long {r = r} e fails =
+      let g : 1024 < length (x ++ s) = rw e at goes.full in
+      let longer : 1024 < length (x ++ (s ++ u)) = omega (arith, length-append x (s ++ u), length-append s u, length-append x s) in
+      rw ((err_from_is_err_and r fails).1) (record { fits = tt; full = longer })

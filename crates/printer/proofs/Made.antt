@@ -5,7 +5,7 @@ use Prim.Native.Char.{code}
 use mathlib.Core.Path.{◌≡◌, refl, sym, ap, ◌∙◌}
 use mathlib.Core.Bool.{true}
 use mathlib.Core.List.{List, [], ◌∷◌, ◌++◌}
-use mathlib.Core.Option.{some}
+use mathlib.Core.Option.{none, some}
 use borrow.Author.Tests.{le-leb, lt-leb}
 use lib.ListN.{length, get_or, take}
 use Rattle.reply.specs.Bytes.{Bytes}
@@ -18,7 +18,12 @@ use Rattle.query.proofs.Rows.{Each, ◌&◌, no_more, row_found}
 use Rattle.query.proofs.Tables.{read_at}
 use Rattle.query.proofs.Standing as standing
 use Rattle.shortest.proofs.Shown.{path_rank, filter_rank, between, held, path_held, filter_held, label_shown, path_shown, filter_shown}
-use Rattle.printer.specs.Printing.{HasEntry, meant_shown, meant_held, meant_at, entry_shown, entry_held, symbols, ranks, opening_for, closing_for}
+use Rattle.std.specs.Prelude.{Option, Some, None, IsSome}
+use Rattle.tables.specs.declared.kinds.Kind.{Kind}
+use Rattle.tables.specs.declared.entry.Entry as tables
+use Rattle.tables.specs.Kind.{number, Stands}
+use Rattle.tables.specs.Fields.{Fields}
+use Rattle.printer.specs.Printing.{HasEntry, meant_shown, meant_held, meant_at, entry_shown, entry_held, ranks, opening_for, closing_for}
 
 -- what an entry of a sort stands for
 abbrev as_meant : Sort → Entries → ℕ → Meant
@@ -150,56 +155,29 @@ module _ {table : Bytes} {e : ℕ} (has : HasEntry table e) where
       let held_right = operand_held s own.right g (rank + 1) in
       (f.0, g.0, shown_as_lem es e has.within s sort ∙ rw (same, held_left, held_right))
 
-  then_shown : own.kind ≡ 7 → Joined 1 (code "/")
+  pub then_shown : own.kind ≡ 7 → Joined 1 (code "/")
   unfolding kinds find path_shown
   then_shown is =
       let ((f, g), same) = standing.then_stands es e has.within own refl right is in
       joined path 1 (code "/") (of_sort 7 refl is) f g (ap path_shown same)
 
-  either_shown : own.kind ≡ 8 → Joined 0 (code "|")
+  pub either_shown : own.kind ≡ 8 → Joined 0 (code "|")
   unfolding kinds find path_shown path_held
   either_shown is =
       let ((f, g), same) = standing.either_stands es e has.within own refl right is in
       joined path 0 (code "|") (of_sort 8 refl is) f g (rw (same, unbracketed) refl)
 
-  and_shown : own.kind ≡ 21 → Joined 1 (code "&")
+  pub and_shown : own.kind ≡ 21 → Joined 1 (code "&")
   unfolding kinds find filter_shown
   and_shown is =
       let ((f, g), same) = standing.and_stands es e has.within own refl right is in
       joined filter 1 (code "&") (of_sort 21 refl is) f g (ap filter_shown same)
 
-  or_shown : own.kind ≡ 22 → Joined 0 (code "+")
+  pub or_shown : own.kind ≡ 22 → Joined 0 (code "+")
   unfolding kinds find filter_shown filter_held
   or_shown is =
       let ((f, g), same) = standing.or_stands es e has.within own refl right is in
       joined filter 0 (code "+") (of_sort 22 refl is) f g (rw (same, unbracketed) refl)
-
-  -- by its rank and its symbol: only the kinds that join two are so loose
-  pub joined_shown : get_or ranks own.kind 0 < 2 → Joined (get_or ranks own.kind 0) (get_or symbols own.kind 0)
-  unfolding kinds row_at
-  joined_shown l =
-      let (joins, number) =
-      row_found (λ row.
-      row.number ≡ own.kind → get_or ranks row.number 0 < 2 → Joined (get_or ranks row.number 0) (get_or symbols row.number 0)) (
-      (λ q l. absurd (omega arith))
-      & (λ q l. absurd (omega arith))
-      & (λ q l. absurd (omega arith))
-      & (λ q l. absurd (omega arith))
-      & (λ q l. absurd (omega arith))
-      & (λ q l. absurd (omega arith))
-      & (λ q l. then_shown (sym q))
-      & (λ q l. either_shown (sym q))
-      & (λ q l. absurd (omega arith))
-      & (λ q l. absurd (omega arith))
-      & (λ q l. absurd (omega arith))
-      & (λ q l. absurd (omega arith))
-      & (λ q l. absurd (omega arith))
-      & (λ q l. absurd (omega arith))
-      & (λ q l. and_shown (sym q))
-      & (λ q l. or_shown (sym q))
-      & no_more
-      ) right.listed in
-      rw number at (joins number (rw number l))
 
   pub label_shown_lem : own.kind ≡ 16 → (own.label ≤ 64) × (entry_shown es e ≡ code "#" ∷ label_shown own.label)
   unfolding kinds find filter_shown build the_filter LabelField row_at
@@ -211,35 +189,13 @@ module _ {table : Bytes} {e : ℕ} (has : HasEntry table e) where
       let stands = standing.filter_stands es e has.within own refl 16 _ refl is in
       (label.most, shown_as_lem es e has.within filter (of_sort 16 refl is) ∙ ap filter_shown stands)
 
-  -- A kind that takes neither operands nor a label is one byte: by the rows of the kinds' list, where every other row is left out.
-  pub leaf_shown : 2 ≤ get_or ranks own.kind 0 → ¬ (own.kind ≡ 6) → ¬ (own.kind ≡ 9) → ¬ (own.kind ≡ 16) → ¬ (own.kind ≡ 17)
-      → ¬ (own.kind ≡ 20) → entry_shown es e ≡ get_or symbols own.kind 0 ∷ []
-  unfolding entry_shown meanings mean row_at entry_at build kinds path_shown filter_shown
-  leaf_shown tight stay star label leads not =
+  -- what a kind that takes neither operands nor a label makes is its byte
+  pub leaf_shown : (kind : ℕ) {row : Row} → row_of kind ≡ some row → own.kind ≡ kind
+      → entry_shown es e ≡ meant_shown (build (take e (meanings es)) row.kind own)
+  unfolding entry_shown meanings mean row_at entry_at
+  leaf_shown kind listed is =
       let blank : Entry = record { kind = 0; label = 0; left = 0; right = 0 } in
-      let before : List Meant = take e (meanings es) in
-      let loose : (n : ℕ) → get_or ranks n 0 < 2 → ¬ (n ≡ own.kind) = λ n l q. let same = ap (λ (k : ℕ). get_or ranks k 0) q in omega arith in
-      let (same, number) =
-      row_found (λ row. row.number ≡ own.kind → meant_shown (build before row.kind own) ≡ get_or symbols row.number 0 ∷ []) (
-      (λ q. refl)
-      & (λ q. refl)
-      & (λ q. refl)
-      & (λ q. refl)
-      & (λ q. refl)
-      & (λ q. absurd (stay (sym q)))
-      & (λ q. absurd (loose 7 (omega arith) q))
-      & (λ q. absurd (loose 8 (omega arith) q))
-      & (λ q. absurd (star (sym q)))
-      & (λ q. absurd (label (sym q)))
-      & (λ q. absurd (leads (sym q)))
-      & (λ q. refl)
-      & (λ q. refl)
-      & (λ q. absurd (not (sym q)))
-      & (λ q. absurd (loose 21 (omega arith) q))
-      & (λ q. absurd (loose 22 (omega arith) q))
-      & no_more
-      ) right.listed in
-      rw (read_at mean es e (a_path syntax.self) blank has.within, right.listed, mean) (rw number at (same number))
+      rw (read_at mean es e (a_path syntax.self) blank has.within, is, listed, mean) refl
 
   -- in brackets, by its kind: where it is looser than asked for
   held_by : (least : ℕ)
@@ -261,3 +217,23 @@ module _ {table : Bytes} {e : ℕ} (has : HasEntry table e) where
         → entry_held least es e ≡ opening_for own.kind ∷ entry_shown es e ++ closing_for own.kind ∷ []
     unfolding held between
     held_between l = held_by least ∙ rw (lt-leb least (get_or ranks own.kind 0) l)
+
+-- The list has the kind of an entry in order,
+pub kind_found : {table : Bytes} {e n : ℕ} (found : Option Kind) → HasEntry table e → n ≡ (entry_at (entries table) e).kind → Stands n found
+    → IsSome found
+unfolding row_at
+kind_found (Some k) has is stands = refl
+kind_found None has is stands =
+    let right = has.order _ has.within in
+    let no : none ≡ some right.row = sym stands ∙ ap row_of is ∙ right.listed in
+    cc
+
+-- and what is found is that kind
+pub kind_is : {entry : Entry} {read : tables.Entry} (found : Option Kind) {kind is : Kind} → Fields entry read → Stands read.kind found
+    → found ≡ Some kind → kind ≡ is → entry.kind ≡ number is
+kind_is {read = read} found {kind} {is} fields stands e same =
+    let here : read.kind ≡ number kind = rw e at stands in
+    sym fields.kind ∙ here ∙ ap number same
+
+pub listed_is : {n : ℕ} {found : Option Kind} {kind : Kind} → Stands n found → found ≡ Some kind → n ≡ number kind
+listed_is stands e = rw e at stands

@@ -1,26 +1,22 @@
 -- What the printer's functions leave behind. Only inner contracts cite it.
-use Rattle.std.specs.Prelude.{ℕ, ◌≤◌, ◌<◌, ◌≡◌, cond, List, [], ◌∷◌, ◌++◌, ltb, length, get_or, take}
+use Rattle.std.specs.Prelude.{ℕ, ◌≤◌, ◌<◌, ◌≡◌, cond, List, [], ◌∷◌, ◌++◌, ltb, length, get_or, Result, OnOk, OnErr}
 use Prim.Native.Char.{code}
 use Rattle.reply.specs.Bytes.{Bytes}
 use Rattle.query.specs.Syntax as syntax
 use Rattle.query.specs.Table.{Entries, entries, Meant, a_path, a_filter, meanings}
 use Rattle.tables.specs.Promise.{EntriesRight}
 use Rattle.shortest.proofs.Shown.{path_held, filter_held, path_shown, filter_shown}
+use Rattle.printer.specs.declared.writing.TooLong.{TooLong}
 
 -- A table whose entries are in order has an entry e.
 pub record HasEntry (table : Bytes) (e : ℕ) : Type 0 where
   pub order : EntriesRight table
   pub within : e < length (entries table)
 
--- The text so far is x: it stands at the front of the buffer, and n is its length; or it is too long for it, and its length is counted no
--- further than 1,025.
-pub data Holds (x : Bytes) : ℕ → Bytes → Type 0 where
-  up_to : {n : ℕ} {out : Bytes} → n ≡ length x → n ≤ 1024 → take n out ≡ x → Holds x n out
-  no_room : {n : ℕ} {out : Bytes} → n ≡ 1025 → 1024 < length x → Holds x n out
-
--- Whatever the text so far is, s is behind it now.
-pub record Goes (s before : Bytes) (n m : ℕ) (after : Bytes) : Type 0 where
-  pub on : (x : Bytes) → Holds x n before → Holds (x ++ s) m after
+-- Behind the text x comes s, if there is room for it; if not, the two are too long.
+pub record Goes (s x : Bytes) (r : Result Unit TooLong) (after : Bytes) : Type 0 where
+  pub fits : OnOk r ((after ≡ x ++ s) × (length after ≤ 1024))
+  pub full : OnErr r (1024 < length (x ++ s))
 
 -- the text of what an entry stands for
 abbrev pub meant_shown : Meant → Bytes
@@ -41,14 +37,7 @@ entry_shown es i = meant_shown (meant_at es i)
 unfoldable pub entry_held : ℕ → Entries → ℕ → Bytes
 entry_held least es i = meant_held least (meant_at es i)
 
--- the byte that each kind is written with, by its number
-abbrev pub symbols : List ℕ
-symbols =
-    0 ∷ code "." ∷ code "v" ∷ code "^" ∷ code ">" ∷ code "<" ∷ 0 ∷ code "/" ∷ code "|" ∷ code "*"
-    ∷ 0 ∷ 0 ∷ 0 ∷ 0 ∷ 0 ∷ 0
-    ∷ code "#" ∷ 0 ∷ code "t" ∷ code "f" ∷ code "!" ∷ code "&" ∷ code "+" ∷ []
-
--- and how tightly what it makes is joined
+-- how tightly what each kind makes is joined, by the kind's number
 abbrev pub ranks : List ℕ
 ranks = 0 ∷ 3 ∷ 3 ∷ 3 ∷ 3 ∷ 3 ∷ 3 ∷ 1 ∷ 0 ∷ 2 ∷ 0 ∷ 0 ∷ 0 ∷ 0 ∷ 0 ∷ 0 ∷ 2 ∷ 2 ∷ 2 ∷ 2 ∷ 2 ∷ 1 ∷ 0 ∷ []
 

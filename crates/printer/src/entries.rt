@@ -1,77 +1,90 @@
-// The text of an entry, which is made of those of its operands. The two functions call each other, and the entry number falls.
+// The text of an entry, which is made of those of its operands. The functions call each other, and the entry number falls.
+ghost use Rattle.std.specs.Prelude.{◌∷◌, ◌++◌, ◌+◌, ◌≤◌};
 ghost use Rattle.query.specs.Table.{entries};
 ghost use Rattle.printer.specs.Printing.{HasEntry, Goes, entry_shown, entry_held};
 
-use crate::kinds::{LABELLED, LEADS, NOT, STAR, STAY};
-use crate::symbols::{closing, opening, put_label, rank, symbol};
-use crate::writing::{TOO_LONG, put};
-use reply::TEXT_BYTES;
-use tables::{entry_at, kind_at};
+use crate::ranks::{brackets, rank};
+use crate::writing::{TooLong, Writing};
+use tables::{Kind, entry_at, kind_of, listed_kind};
+
+// Two operands with a byte between them: the right one is asked for one rank more.
+#[cycle(hold_show)]
+fn join(
+    table: &[u8],
+    left: usize,
+    right: usize,
+    least: usize,
+    byte: u8,
+    text: &mut Writing,
+) -> Result<(), TooLong>
+    requires left_entry { HasEntry table.now left }
+    requires right_entry { HasEntry table.now right }
+    requires least_bound { least ≤ 1 }
+    ensures { Goes (entry_held least (entries table.now) left ++ byte ∷ entry_held (least + 1) (entries table.now) right)
+        text.old result text.new }
+{
+    hold(table, left, least, text)?;
+    text.put(byte)?;
+    hold(table, right, least + 1, text)
+}
 
 // The text of entry e with no brackets around it.
 #[cycle(hold_show)]
-fn show(table: &[u8], e: usize, out: &mut [u8; TEXT_BYTES], size: usize) -> usize
+fn show(table: &[u8], e: usize, text: &mut Writing) -> Result<(), TooLong>
     requires { HasEntry table.now e }
-    ensures { Goes (entry_shown (entries table.now) e) out.old size result out.new }
+    ensures { Goes (entry_shown (entries table.now) e) text.old result text.new }
 {
     let entry = entry_at(table, e);
-    let kind = entry.kind;
     let left = entry.left;
-    let own = rank(kind);
-    if own < 2 {
-        let first = hold(table, left, own, out, size);
-        let joined = put(out, first, symbol(kind));
-        return hold(table, entry.right, own + 1, out, joined);
-    }
+    let right = entry.right;
+    let kind = kind_of(entry.kind).unwrap();
     match kind {
-        STAY => {
-            let opened = put(out, size, b'[');
-            let inside = hold(table, left, 0, out, opened);
-            put(out, inside, b']')
+        Kind::Itself => text.put(b'.'),
+        Kind::Child => text.put(b'v'),
+        Kind::Parent => text.put(b'^'),
+        Kind::Next => text.put(b'>'),
+        Kind::Previous => text.put(b'<'),
+        Kind::Stay => {
+            text.put(b'[')?;
+            hold(table, left, 0, text)?;
+            text.put(b']')
         }
-        STAR => {
-            let item = hold(table, left, 3, out, size);
-            put(out, item, symbol(kind))
+        Kind::Then => join(table, left, right, 1, b'/', text),
+        Kind::Either => join(table, left, right, 0, b'|', text),
+        Kind::Star => {
+            hold(table, left, 3, text)?;
+            text.put(b'*')
         }
-        LABELLED => {
-            let hash = put(out, size, symbol(kind));
-            put_label(out, hash, entry.label)
+        Kind::Labelled => {
+            text.put(b'#')?;
+            text.put_label(entry.label)
         }
-        LEADS => hold(table, left, 0, out, size),
-        NOT => {
-            let not = put(out, size, symbol(kind));
-            hold(table, left, 2, out, not)
+        Kind::Leads => hold(table, left, 0, text),
+        Kind::Always => text.put(b't'),
+        Kind::Never => text.put(b'f'),
+        Kind::Not => {
+            text.put(b'!')?;
+            hold(table, left, 2, text)
         }
-        _ => put(out, size, symbol(kind)),
+        Kind::And => join(table, left, right, 1, b'&', text),
+        Kind::Or => join(table, left, right, 0, b'+', text),
     }
 }
 
 // The text of entry e where at least a rank is asked for: in brackets if it is joined more loosely. A text that is full already is left
 // alone, so that no entry is unfolded for nothing.
 #[cycle(hold_show)]
-pub(crate) fn hold(
-    table: &[u8],
-    e: usize,
-    least: usize,
-    out: &mut [u8; TEXT_BYTES],
-    size: usize,
-) -> usize
+pub(crate) fn hold(table: &[u8], e: usize, least: usize, text: &mut Writing) -> Result<(), TooLong>
     requires { HasEntry table.now e }
-    ensures { Goes (entry_held least (entries table.now) e) out.old size result out.new }
+    ensures { Goes (entry_held least (entries table.now) e) text.old result text.new }
 {
-    if TEXT_BYTES < size {
-        return TOO_LONG;
-    }
-    let kind = kind_at(table, e);
+    let kind = listed_kind(table, e).unwrap();
     let loose = rank(kind) < least;
-    let mut opened = size;
-    if loose {
-        opened = put(out, size, opening(kind));
+    if !loose {
+        return show(table, e, text);
     }
-    let inside = show(table, e, out, opened);
-    if loose {
-        put(out, inside, closing(kind))
-    } else {
-        inside
-    }
+    let (opening, closing) = brackets(kind);
+    text.put(opening)?;
+    show(table, e, text)?;
+    text.put(closing)
 }

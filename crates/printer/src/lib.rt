@@ -3,8 +3,7 @@
 #![tactic(auto)]
 
 mod entries;
-mod kinds;
-mod symbols;
+mod ranks;
 mod writing;
 
 ghost use Rattle.reply.specs.Reply.{said};
@@ -13,6 +12,7 @@ ghost use Rattle.text.specs.Print.{TablePrinted};
 use entries::hold;
 use reply::{CURATOR_ENTRIES, CURATOR_HEIGHT, Reason, Reply, TEXT_BYTES, refuse};
 use tables::check_query;
+use writing::Writing;
 
 // "A table within the curator's limits becomes query text": gives the number of its bytes.
 pub fn print_query(query: &[u8], room: &mut [u8]) -> Reply
@@ -22,11 +22,12 @@ pub fn print_query(query: &[u8], room: &mut [u8]) -> Reply
         return refuse(Reason::ShortRoom, 0);
     }
     let entries = check_query(query, CURATOR_ENTRIES, CURATOR_HEIGHT)?;
-    let mut text = [0u8; TEXT_BYTES];
-    let size = hold(query, entries - 1, 0, &mut text, 0);
-    if size > TEXT_BYTES {
+    let mut text = Writing::new();
+    let Ok(()) = hold(query, entries - 1, 0, &mut text) else {
         return refuse(Reason::TextTooLong, 0);
-    }
-    room[..size].copy_from_slice(&text[..size]);
+    };
+    let written = text.written();
+    let size = written.len();
+    room[..size].copy_from_slice(written);
     Ok(size)
 }
