@@ -1,5 +1,6 @@
 -- Numbers with a space before each: one behind others, and how long they are. Assumes nothing.
 use Prim.Native.Nat.{ℕ, zero, suc, ◌+◌, ◌-◌, ◌*◌, ◌^◌, ◌≤◌, ◌<◌}
+use native.Mathlib.Numerals.{add-one}
 use native.Mathlib.Omega.{arith}
 use mathlib.Core.Path.{◌≡◌, refl, sym, ap, subst, ◌∙◌}
 use mathlib.Core.Bool.{Bool, true, false, cond}
@@ -98,40 +99,15 @@ ended {s} {map} {b} {after = after} {end = end} room x y =
     let line : Put b 0 (line_of s map) end after = rw (line_ended s map) at (put_then (omega (arith, x.room)) x.put y) in
     record { count = line.end ∙ omega arith; written = put_written (omega (arith, x.room, y.end)) line }
 
--- ---- the loop over the positions, of which `left` are left
+-- ---- the loop over the positions
 
--- the positions before those that are left are written
-pub record Listed (map before : Bytes) (at : ℕ) (to left : ℕ) (after : Bytes) : Type 0 where
-  pub few : left ≤ 4096
-  pub put : Put before at (spaced (positions map (4096 - left))) to after
+-- where the positions below k end
+pub listed_end : (map : Bytes) (k : ℕ) {before after : Bytes} {at to : ℕ} → k ≤ 4096 → Put before at (spaced (positions map k)) to after
+    → to ≤ at + 5 * k
+listed_end map k l p = omega (arith, p.end, spaced_positions map k l)
 
-pub none_listed : (map before : Bytes) (at : ℕ) → Listed map before at at 4096 before
-unfolding spaced positions
-none_listed map before at = record { few = omega arith; put = put_none before at }
-
--- where they end
-pub listed_end : {map before after : Bytes} {at to left : ℕ} → Listed map before at to left after → to ≤ at + 5 * (4096 - left)
-listed_end {map} {left = left} x = omega (arith, x.put.end, spaced_positions map (4096 - left) (omega arith))
-
-pub listed_length : {map before after : Bytes} {at to left : ℕ} → at + 5 * 4096 ≤ length before → Listed map before at to left after
-    → length after ≡ length before
-listed_length room x = put_length (omega (arith, listed_end x)) x.put
-
--- a turn: position 4096 - left
-pub list_one : {map before middle after : Bytes} {at to end left : ℕ} → at + 5 * 4096 ≤ length before → 0 < left
-    → Listed map before at to left middle → Put middle to (spaced (chosen map (4096 - left))) end after
-    → Listed map before at end (left - 1) after
-list_one {map} {before} {after = after} {at} {end = end} {left} room some x p = record { few = omega (arith, x.few); put = all }
-  where
-    next : 4096 - (left - 1) ≡ suc (4096 - left)
-    next = omega (arith, x.few)
-
-    all : Put before at (spaced (positions map (4096 - (left - 1)))) end after
-    all = rw (next, one_more map (4096 - left)) (put_then (omega (arith, listed_end x)) x.put p)
-
--- after the last turn
-pub all_listed : {map before after : Bytes} {at to left : ℕ} → left ≤ 0 → Listed map before at to left after
-    → Put before at (spaced (positions map 4096)) to after
-all_listed {map} {before} {after} {at} {to} {left} none x =
-    let e : left ≡ 0 = omega arith in
-    subst (λ (n : ℕ). Put before at (spaced (positions map (4096 - n))) to after) e x.put
+-- a turn: position k
+pub list_one : (map : Bytes) (k : ℕ) {before middle after : Bytes} {at to end : ℕ} → at + 5 * 4096 ≤ length before → k < 4096
+    → Put before at (spaced (positions map k)) to middle → Put middle to (spaced (chosen map k)) end after
+    → Put before at (spaced (positions map (k + 1))) end after
+list_one map k room l x p = rw (add-one, one_more map k) (put_then (omega (arith, listed_end map k (omega arith) x)) x p)

@@ -16,9 +16,7 @@ fn is_in(map: &[u8; 512], k: usize) -> bool
     requires { k < 4096 }
     ensures { result ≡ eqb (bit map.now k) 1 }
 {
-    let bytes: &[u8] = map;
-    let byte = bytes[k / 8];
-    (byte >> (k % 8)) % 2 == 1
+    (map[k / 8] >> (k % 8)) % 2 == 1
 }
 
 // Position k, if it is in the bitmap.
@@ -38,11 +36,8 @@ fn put_positions(map: &[u8; 512], out: &mut [u8], at: usize) -> usize
     ensures { Put out.old at (spaced (positions map.now 4096)) result out.new }
 {
     let mut to = at;
-    let mut left = 4096;
-    while 0 < left {
-        let k = 4096 - left;
+    for k in 0..4096 {
         to = put_position(map, k, out, to);
-        left -= 1;
     }
     to
 }
@@ -81,11 +76,7 @@ fn put_reply(reply: Reply, map: &[u8; 512], out: &mut [u8]) -> usize
 {
     match reply {
         Ok(n) => put_answer(n, map, out),
-        Err(refusal) => {
-            let reason = refusal.reason;
-            let place = refusal.place;
-            put_refusal(number_of(reason) as usize, place, out)
-        }
+        Err(refusal) => put_refusal(number_of(refusal.reason) as usize, refusal.place, out),
     }
 }
 

@@ -1,9 +1,7 @@
--- `put_positions`: the positions before those that are left are written. The measure is how many are left.
-use Rattle.lines.proofs.Listing.{Listed}
+-- `put_positions`: the positions before this one are written.
+use Rattle.lines.specs.Line.{spaced, positions}
+use Rattle.lines.specs.Put.{Put}
 use Rattle.lines.proofs.reply_line.put_positions.Given as goal
 
-abbrev pub invariant-loop-left : goal.invariant-loop-left
-invariant-loop-left l = Listed l.map l.initial.out l.at l.to l.left l.out
-
-abbrev pub decreases-loop-left : goal.decreases-loop-left
-decreases-loop-left l = l.left
+abbrev pub invariant-loop-k : goal.invariant-loop-k
+invariant-loop-k l = Put l.initial.out l.at (spaced (positions l.map l.k)) l.to l.out

@@ -2,10 +2,10 @@
 use Rattle.lines.proofs.Listing.{refused_begun}
 use Rattle.lines.proofs.reply_line.put_reply.Goals as goal
 
-pub returns-in-Count : goal.returns-in-Count
-returns-in-Count c =
-    rw c.in-Count.is c.put_answer.ensures
+pub returns-in-Ok : goal.returns-in-Ok
+returns-in-Ok c =
+    rw c.in-Ok.is c.put_answer.ensures
 
-pub returns-in-Refused : goal.returns-in-Refused
-returns-in-Refused c =
-    refused_begun c.in-Refused.is c.number_of.ensures c.put_refusal.ensures
+pub returns-in-Err : goal.returns-in-Err
+returns-in-Err c =
+    refused_begun c.in-Err.is c.number_of.ensures c.put_refusal.ensures
