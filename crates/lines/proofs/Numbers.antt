@@ -23,9 +23,9 @@ enough (suc k) (suc m) n l h = by (dec_lt n 10) (λ large. enough k m (n / 10) (
     by (no large) rest = ap (λ (b : Bytes). cond (ltb n 10) [] b ++ (48 + n % 10) ∷ []) (rest large)
 
 -- a number below ten is one digit
-pub decimal_small : (n : ℕ) → n < 10 → decimal n ≡ (48 + n) ∷ []
+pub decimal_small : (n : ℕ) → n < 10 → decimal n ≡ (48 + n % 10) ∷ []
 unfolding decimal digits
-decimal_small n small = rw (lt-ltb n 10 small) (ap (λ (d : ℕ). (48 + d) ∷ []) (omega arith))
+decimal_small n small = rw (lt-ltb n 10 small) refl
 
 -- any other is the digits of its tenth, and one more
 pub decimal_large : (n : ℕ) → 10 ≤ n → decimal n ≡ decimal (n / 10) ++ (48 + n % 10) ∷ []

@@ -1,22 +1,18 @@
 -- Pieces of a line that are written one behind the other are one piece. Assumes nothing.
-use Prim.Native.Nat.{ℕ, ◌+◌, ◌≤◌, ◌<◌}
+use Prim.Native.Nat.{ℕ, ◌+◌, ◌≤◌}
 use native.Mathlib.Nat.{add-zero}
-use native.Mathlib.Numerals.{add-one}
 use native.Mathlib.Omega.{arith}
 use mathlib.Core.Path.{◌≡◌, refl, sym, ap, ap₂, ◌∙◌}
-use mathlib.Core.List.{[], ◌∷◌, ◌++◌, append_assoc, append-nil}
-use lib.ListN.{length, take, drop, set, take-append-drop, length-append, length-drop}
-use lib.Seq.{set_split, append_snoc, length-take-le, take_at, drop-append-add, drop-drop}
+use mathlib.Core.List.{[], ◌++◌, append_assoc, append-nil}
+use lib.ListN.{length, take, drop, take-append-drop, length-append, length-drop}
+use lib.Seq.{length-take-le, take_at, drop-append-add, drop-drop}
 use Rattle.reply.specs.Bytes.{Bytes, Written}
-use Rattle.lines.specs.Put.{Put}
+use Rattle.lines.specs.declared.line.Line.{Line}
+use Rattle.lines.specs.Put.{Put, Wrote}
 
 -- nothing is written
 pub put_none : (b : Bytes) (at : ℕ) → Put b at [] at b
 put_none b at = record { end = sym (add-zero at); bytes = rw append-nil (sym (take-append-drop at b)) }
-
--- a byte is stored
-pub put_one : (b : Bytes) (at x : ℕ) → at < length b → Put b at (x ∷ []) (at + 1) (set b at x)
-put_one b at x l = record { end = refl; bytes = rw (add-one at) (set_split b at x l ∙ sym (append_snoc (take at b) x _)) }
 
 -- what is written at the front
 pub put_written : {b s after : Bytes} {to : ℕ} → to ≤ length b → Put b 0 s to after → Written b s after
@@ -49,3 +45,12 @@ module _ {b s after : Bytes} {at to : ℕ} (fits : to ≤ length b) (p : Put b a
           let e : end ≡ length (take at b ++ s) + length t = q.end ∙ ap (λ (n : ℕ). n + length t) (sym front) in
           ap₂ drop e p.bytes ∙ drop-append-add (take at b ++ s) (drop to b) (length t)
           ∙ drop-drop (length t) to b ∙ ap (λ (n : ℕ). drop n b) (sym q.end)
+
+-- ---- the same of a line
+
+pub wrote_none : (a : Line) → a.at ≤ length a.out.now → Wrote a [] a
+wrote_none a fits = record { same = refl; long = refl; fits = fits; put = put_none a.out.now a.at }
+
+pub wrote_then : {a b c : Line} {s t : Bytes} → Wrote a s b → Wrote b t c → Wrote a (s ++ t) c
+wrote_then x y =
+    record { same = y.same ∙ x.same; long = y.long ∙ x.long; fits = omega (arith, x.long, y.fits); put = put_then x.fits x.put y.put }

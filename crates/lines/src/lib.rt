@@ -2,7 +2,7 @@
 
 #![tactic(auto)]
 
-mod number;
+mod line;
 mod reply_line;
 
 pub use reply_line::{LONGEST, write_line};

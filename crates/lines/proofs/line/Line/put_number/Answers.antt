@@ -1,7 +1,7 @@
 -- `put_number`: a number of the machine has at most 20 digits.
 use native.Mathlib.Omega.{arith}
 use Rattle.lines.proofs.Listing.{spaced_length, spaced_number}
-use Rattle.lines.proofs.number.put_number.Goals as goal
+use Rattle.lines.proofs.line.Line.put_number.Goals as goal
 
 pub put_spaced-requires : goal.put_spaced-requires
 put_spaced-requires c =
@@ -11,4 +11,4 @@ put_spaced-requires c =
 pub returns : goal.returns
 returns c =
     let few = spaced_number c.args.n c.ranges.n.fits in
-    (c.put_spaced.ensures, omega (arith, c.put_spaced.ensures.end))
+    (c.put_spaced.ensures, omega (arith, c.put_spaced.ensures.put.end))

@@ -1,11 +1,9 @@
 -- `put_reply`: a count is written with its positions, a refusal with its number from the list.
 use Rattle.lines.proofs.Listing.{refused_begun}
-use Rattle.lines.proofs.reply_line.put_reply.Goals as goal
+use Rattle.lines.proofs.line.Line.put_reply.Goals as goal
 
 pub returns-in-Ok : goal.returns-in-Ok
-returns-in-Ok c =
-    rw c.in-Ok.is c.put_answer.ensures
+returns-in-Ok c = rw c.in-Ok.is c.put_answer.ensures
 
 pub returns-in-Err : goal.returns-in-Err
-returns-in-Err c =
-    refused_begun c.in-Err.is c.number_of.ensures c.put_refusal.ensures
+returns-in-Err c = refused_begun c.in-Err.is c.number_of.ensures c.put_refusal.ensures
