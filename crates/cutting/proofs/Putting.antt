@@ -2,7 +2,7 @@
 use Prim.Native.Nat.{ℕ, ◌+◌, ◌-◌, ◌*◌, ◌/◌, ◌%◌, ◌≤◌}
 use native.Mathlib.Omega.{arith}
 use native.Mathlib.Numerals.{towards_suc}
-use mathlib.Core.Path.{◌≡◌, sym, ap}
+use mathlib.Core.Path.{◌≡◌, sym, ap, ◌∙◌}
 use mathlib.Core.List.{[], ◌∷◌}
 use lib.ListN.{length, take, drop, set, take-append-drop}
 use lib.Seq.{sets, drop-drop}
@@ -11,7 +11,10 @@ use Rattle.reply.proofs.Stores.{stored_front, stored_behind}
 use Rattle.tree.specs.Tree.{Tree}
 use Rattle.roll.specs.Roll.{node_bytes}
 use Rattle.roll.proofs.Back.{node_bytes_length}
+use Rattle.std.specs.Borrow.{MutBor}
+use Rattle.cutting.specs.declared.Scan.{Scan}
 use Rattle.cutting.specs.Scan.{NodePut}
+use Rattle.cutting.specs.Passing.{RestKept}
 
 -- label, zero byte and the number behind them are the bytes of a node
 pub stored : (room : Bytes) (k label parent : ℕ) {after : Bytes} → 4 * (k + 1) ≤ length room
@@ -39,3 +42,11 @@ pub same_behind : (a b : Bytes) (m n : ℕ) → m ≤ n → drop m a ≡ drop m 
 same_behind a b m n l e =
     let later : m + (n - m) ≡ n = omega arith in
     rw (← later, ← drop-drop (n - m) m a, ← drop-drop (n - m) m b) (ap (drop (n - m)) e)
+
+-- one record more leaves the rest as it is
+pub rest_more : {lent : MutBor Bytes} {s t : Scan} → RestKept lent s → RestKept s.room t → s.written ≤ t.written → RestKept lent t
+rest_more {s = s} {t} x y grown = record {
+  same = y.same ∙ x.same;
+  long = y.long ∙ x.long;
+  behind = y.behind ∙ same_behind _ _ (4 * s.written) (4 * t.written) (omega arith) x.behind;
+}

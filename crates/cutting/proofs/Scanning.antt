@@ -1,6 +1,6 @@
 -- One scan cuts out the view: it keeps for each record passed its place in the view, so each next record finds the position of its nearest
 -- visible ancestor at its parent. Assumes nothing.
-use Prim.Native.Nat.{ℕ, suc, ◌+◌, ◌≤◌, ◌<◌}
+use Prim.Native.Nat.{ℕ, suc, ◌+◌, ◌*◌, ◌≤◌, ◌<◌}
 use native.Mathlib.Nat.{eq-or-lt_of_le}
 use native.Mathlib.Numerals.{add-one}
 use native.Mathlib.Omega.{arith}
@@ -13,12 +13,18 @@ use borrow.Author.Count.{below_more}
 use Rattle.reply.specs.Bytes.{Bytes}
 use Rattle.tree.specs.Tree.{Node, Tree, label_at, parent_at, Child, InOrder}
 use Rattle.tree.proofs.Order.{parent_smaller}
-use Rattle.roll.specs.Roll.{none, node_bytes}
+use Rattle.roll.specs.Roll.{none, nodes, node_bytes, Roll}
+use Rattle.roll.proofs.Records.{count_nodes}
+use Rattle.roll.proofs.Deciding.{roll_root}
 use Rattle.roll.proofs.Back.{node_bytes_append}
 use Rattle.view.specs.View.{Before, start, seen, hidden, Position, Nearest, parent, beyond, View}
 use Rattle.view.proofs.Nearest.{nearest_unique, nearest_node, nearest_less}
-use Rattle.view.proofs.Positions.{before_unique, before_monotone, before_counts, position_unique}
-use Rattle.cutting.specs.Scan.{ParentPlace, root, later, Placed, own, above, ViewTo, Scanned, NodePut}
+use Rattle.view.proofs.Positions.{before_most, before_unique, before_monotone, before_counts, position_unique}
+use Rattle.std.specs.Borrow.{MutBor}
+use Rattle.cutting.specs.declared.Scan.{Scan}
+use Rattle.cutting.specs.Scan.{ParentPlace, root, later, Placed, own, above, ViewTo, Scanned, CutOut, NodePut}
+use Rattle.cutting.specs.Passing.{Passed, RestKept}
+use Rattle.cutting.proofs.Putting.{written_front}
 
 module _ {t : Tree} {Seen : ℕ → Type 0} where
   -- the place of the parent is the position of the nearest visible ancestor
@@ -159,6 +165,20 @@ module _ {t : Tree} {Seen : ℕ → Type 0} where
     root = whole.root some;
     parent = λ x near y. whole.parent (nearest_node near) x near y;
   }
+
+-- it stands in the room that was lent
+pub cut_out : {roll : Bytes} {Seen : ℕ → Type 0} {s : Scan} {lent : MutBor Bytes} {after : Bytes} → Roll roll → length roll ≤ length lent.now
+    → Passed (nodes roll) Seen (length (nodes roll)) s → RestKept lent s → after ≡ s.room.now
+    → CutOut (nodes roll) Seen lent.now s.written after
+cut_out {roll} {s = s} {lent} right fits whole rest e =
+    let few = before_most whole.is.size in
+    let room : 4 * s.written ≤ length lent.now = omega (arith, whole.count, count_nodes roll) in
+    rw e (record {
+      view = whole.view;
+      is = all_scanned (roll_root right) whole.is;
+      count = whole.count;
+      written = written_front _ _ whole.view s.written whole.count room whole.front rest.behind;
+    })
 
 -- the view of one set of nodes is the view of any other that has the same nodes
 pub view_as : {t : Tree} {S R : ℕ → Type 0} {v : Tree} → ((k : ℕ) → S k ↔ R k) → View t S v → View t R v

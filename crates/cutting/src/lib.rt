@@ -5,12 +5,13 @@
 
 mod node;
 
-ghost use Rattle.std.specs.Prelude.{◌+◌, ◌*◌, ◌≤◌, ◌<◌, ◌≡◌, length, drop};
+ghost use Rattle.std.specs.Prelude.{◌+◌, ◌≤◌, ◌<◌, length};
 ghost use Rattle.reply.specs.Reply.{said};
 ghost use Rattle.roll.specs.Roll.{nodes, Roll};
 ghost use Rattle.view.specs.Promise.{ViewCut};
 ghost use Rattle.sets.specs.Sets.{In};
-ghost use Rattle.cutting.specs.Scan.{Scanned, CutOut};
+ghost use Rattle.cutting.specs.Scan.{CutOut};
+ghost use Rattle.cutting.specs.Passing.{Passed, RestKept};
 
 use checks::ready_to_cut;
 use node::{parent_place, put};
@@ -19,30 +20,32 @@ use roll::{count, label_at};
 use sets::has;
 use visible::visible_nodes;
 
-// Passes record i, where `written` records of the view stand in the room: how many stand there then.
-fn pass(
-    roll: &[u8],
-    seen: &[u64; 64],
-    i: usize,
-    places: &mut [u16; 4096],
+// The scan: the place of each record passed, the number of records written, and the room that they stand in.
+#[derive(Drop)]
+struct Scan<'a> {
+    places: [u16; 4096],
     written: usize,
-    room: &mut [u8],
-) -> usize
-    requires roll { Roll roll.now × In seen.now 0 × (length roll.now ≤ length room.old) }
-    requires i_in_bounds { i < length (nodes roll.now) }
-    requires scanned { Scanned (nodes roll.now) (In seen.now) i places.old written room.old }
-    ensures scanned_2 { Scanned (nodes roll.now) (In seen.now) (i + 1) places.new result room.new }
-    ensures room_unchanged { drop (4 * result) room.new ≡ drop (4 * result) room.old }
-{
-    let parent = parent_place(roll, places, i);
-    let slots: &mut [u16] = places;
-    if has(seen, i) {
-        put(room, written, label_at(roll, i) as u8, parent);
-        slots[i] = written as u16;
-        return written + 1;
+    room: &'a mut [u8],
+}
+
+impl<'a> Scan<'a> {
+    // Passes record i. A visible one is written behind those that stand in the room.
+    fn pass(&mut self, roll: &[u8], seen: &[u64; 64], i: usize)
+        requires roll { Roll roll.now × In seen.now 0 × (length roll.now ≤ length self.old.room.now) }
+        requires i_in_bounds { i < length (nodes roll.now) }
+        requires scanned { Passed (nodes roll.now) (In seen.now) i self.old }
+        ensures scanned_2 { Passed (nodes roll.now) (In seen.now) (i + 1) self.new }
+        ensures rest { RestKept self.old.room self.new }
+    {
+        let parent = parent_place(roll, &self.places, i);
+        if has(seen, i) {
+            put(self.room, self.written, label_at(roll, i) as u8, parent);
+            self.places[i] = self.written as u16;
+            self.written += 1;
+            return;
+        }
+        self.places[i] = parent as u16;
     }
-    slots[i] = parent as u16;
-    written
 }
 
 // Writes the view of the nodes seen: its number of nodes.
@@ -51,12 +54,15 @@ fn write_view(roll: &[u8], seen: &[u64; 64], room: &mut [u8]) -> usize
     ensures { CutOut (nodes roll.now) (In seen.now) room.old result room.new }
 {
     let n = count(roll);
-    let mut places = [0u16; 4096];
-    let mut written = 0;
+    let mut scan = Scan {
+        places: [0; 4096],
+        written: 0,
+        room,
+    };
     for i in 0..n {
-        written = pass(roll, seen, i, &mut places, written, room);
+        scan.pass(roll, seen, i);
     }
-    written
+    scan.written
 }
 
 // "Cut out the view; room as long as the roll. Gives its number of nodes."

@@ -14,8 +14,7 @@ pub(crate) fn parent_place(roll: &[u8], places: &[u16; 4096], i: usize) -> usize
     if i == 0 {
         return NO_PARENT;
     }
-    let all: &[u16] = places;
-    all[parent_at(roll, i)] as usize
+    usize::from(places[parent_at(roll, i)])
 }
 
 // Writes a node as record k of the room.

@@ -20,13 +20,14 @@ parent_low c =
 pub returns-then-i-eq0 : goal.returns-then-i-eq0
 returns-then-i-eq0 c = (root c.if-i-eq0.true, omega arith)
 
-pub offset_bounds-all-parent_at : goal.offset_bounds-all-parent_at
-offset_bounds-all-parent_at c = omega (arith, parent_low c)
+pub offset_bounds-places-parent_at : goal.offset_bounds-places-parent_at
+offset_bounds-places-parent_at c = omega (arith, parent_low c)
 
-pub bounds-all-parent_at : goal.bounds-all-parent_at
-bounds-all-parent_at c = omega (arith, parent_low (goal.at.bounds-all-parent_at c).After-parent_at)
+pub bounds-places-parent_at : goal.bounds-places-parent_at
+bounds-places-parent_at c = omega (arith, parent_low (goal.at.bounds-places-parent_at c).After-parent_at)
 
 pub returns : goal.returns
 returns c =
     let behind : 0 < c.args.i = omega arith in
-    (rw c.parent_at.ensures (later behind), c.fits-places c.parent_at.result)
+    let place = c.fits-places c.parent_at.result in
+    rw c.from.ensures (rw c.parent_at.ensures (later behind), place)
