@@ -13,6 +13,9 @@ use lib.Pow.{pow_pos, pow_mono, shr-shr, shl_exact, field, mod-mod-pow}
 use lib.Bits.{bit_and, bit_or, bit_xor, differ, and_step, or_step, xor_step, and_shr, or_shr, xor_shr, and_high}
 use lib.Bits.{and_le_l, and_le_r, or_add_and, xor_add_and}
 use lib.Count.{count_trailing_zeros, under}
+use mir.Syntax.{w64}
+use Rattle.std.specs.Int.{bit_not}
+use Rattle.std.proofs.lemmas.Nat.Bits.{bit_at_not}
 use Rattle.sets.specs.Bits.{digit}
 
 -- ---- a digit
@@ -126,14 +129,15 @@ or_none a b =
     let r = and_le_r a b in
     (λ e. (omega arith, omega arith), λ (x, y). omega arith)
 
--- b put in and then turned over: what is 1 in the first and not in the second
-pub minus_one : (a b k : ℕ) → (digit (bit_xor (bit_or a b) b) k ≡ 1) ↔ ((digit a k ≡ 1) × ¬ (digit b k ≡ 1))
-minus_one a b k =
-    let e = digit_xor (bit_or a b) b k in
-    let e' = digit_or a b k in
+-- what is 1 in the first and not in the second
+pub minus_one : (a b k : ℕ) → b < 2 ^ 64 → k < 64 → (digit (bit_and a (bit_not w64 b)) k ≡ 1) ↔ ((digit a k ≡ 1) × ¬ (digit b k ≡ 1))
+unfolding digit
+minus_one a b k f l =
+    let e = digit_and a (bit_not w64 b) k in
+    let turned = bit_at_not w64 b k f l in
     let p = digit_below a k in
     let q = digit_below b k in
-    (λ h. (omega arith, λ o. omega arith), λ (h, f). omega arith)
+    (λ h. (omega arith, λ o. omega arith), λ (h, out). omega arith)
 
 -- ---- one digit alone, and the lowest of them
 

@@ -18,10 +18,7 @@ use mir.Val.{Fits}
 use lib.Bits.{bit_or}
 use borrow.Author.Count.{below_none, below_more}
 use Rattle.sets.specs.Bits.{digit, bit_of, ones}
-use Rattle.sets.specs.declared.merge.Merge.{Merge}
-use Rattle.sets.specs.declared.merge.Merge.TheVariants.{Either, Both, First}
 use Rattle.sets.specs.Sets.{In, Holds, Inside}
-use Rattle.sets.specs.Merge.{Kept, Front}
 use Rattle.sets.proofs.Digits.{same_digit, digit_mod, digit_shr, zero_digit, none_of_zero, not_one, digits_none}
 use Rattle.sets.proofs.Digits.{or_none, put_in}
 
@@ -124,61 +121,39 @@ added words k e l =
 
 -- ---- the loop
 
--- the first i words are made, and the others stand as before
-pub record Made (width : ℕ) (P : ℕ → Type 0) (before words : List ℕ) (i : ℕ) : Type 0 where
+-- the first i of the words are written, word j as C j says, and the others stand as before
+pub record Written (C : ℕ → ℕ → Type 0) (before words : List ℕ) (i : ℕ) : Type 0 where
   pub long : length words ≡ length before
-  pub made : (j : ℕ) → j < i → Word width P j (get_or words j 0)
+  pub made : (j : ℕ) → j < i → C j (get_or words j 0)
   pub rest : (j : ℕ) → i ≤ j → get_or words j 0 ≡ get_or before j 0
 
-module _ {width : ℕ} {P : ℕ → Type 0} where
-  pub none_made : (words : List ℕ) → Made width P words words 0
-  none_made words = record { long = refl; made = below_none (λ (j : ℕ). Word width P j (get_or words j 0)); rest = λ j l. refl }
+-- each so that it is its word of the numbers with the property
+abbrev pub Made : ℕ → (ℕ → Type 0) → List ℕ → List ℕ → ℕ → Type 0
+Made width P = Written (Word width P)
 
-  -- a turn of the loop, which makes word i
-  pub one_made : {before words : List ℕ} {i v : ℕ} → Made width P before words i → i < length before → Word width P i v
-      → Made width P before (set words i v) (i + 1)
+module _ {C : ℕ → ℕ → Type 0} where
+  pub none_made : (words : List ℕ) → Written C words words 0
+  none_made words = record { long = refl; made = below_none (λ (j : ℕ). C j (get_or words j 0)); rest = λ j l. refl }
+
+  -- a turn of the loop, which writes word i
+  pub one_made : {before words : List ℕ} {i v : ℕ} → Written C before words i → i < length before → C i v
+      → Written C before (set words i v) (i + 1)
   one_made {before} {words} {i} {v} m l new = record {
     long = length-set words i v ∙ m.long;
-    made = below_more (λ (j : ℕ). Word width P j (get_or (set words i v) j 0)) i
-        (λ j h. subst (Word width P j) (sym (get_or-set_other words i j v 0 (λ e. omega arith))) (m.made j h))
-        (subst (Word width P i) (sym (get_or-set_same words i v 0 (omega (arith, m.long)))) new);
+    made = below_more (λ (j : ℕ). C j (get_or (set words i v) j 0)) i
+        (λ j h. subst (C j) (sym (get_or-set_other words i j v 0 (λ e. omega arith))) (m.made j h))
+        (subst (C i) (sym (get_or-set_same words i v 0 (omega (arith, m.long)))) new);
     rest = λ j h. get_or-set_other words i j v 0 (λ e. omega arith) ∙ m.rest j (omega arith);
   }
 
--- ---- two sets made into one
-
--- what is kept of equal sets is equal
-kept_same : (how : Merge) {P Q P' Q' : Type 0} → P ↔ P' → Q ↔ Q' → Kept how P Q ↔ Kept how P' Q'
-kept_same Either f g = (⊎_map f.0 g.0, ⊎_map f.1 g.1)
-kept_same Both f g = Iff.and f g
-kept_same First f g = Iff.and f (Iff.not g)
-
-module _ (how : Merge) (a b : List ℕ) where
-  -- what is kept of sets below n is below n
-  pub kept_below : (n : ℕ) → Inside n a → Inside n b → (k : ℕ) → Kept how (In a k) (In b k) → k < n
-  kept_below n in_a in_b k = below how
-    where
-      below : (how : Merge) → Kept how (In a k) (In b k) → k < n
-      below Either m = ⊎_elim (in_a k) (in_b k) m
-      below Both (m, _) = in_a k m
-      below First (m, _) = in_a k m
-
-  -- behind the first n, what is kept is what stands in the first set
-  pub kept_behind : (n : ℕ) → Front how n a b → (k : ℕ) → n ≤ k → In a k ↔ Kept how (In a k) (In b k)
-  kept_behind n front k l = behind how front
-    where
-      behind : (how : Merge) → Front how n a b → In a k ↔ Kept how (In a k) (In b k)
-      behind Either in_b = (inl, ⊎_elim (λ x. x) (λ y. absurd (omega (arith, in_b k y))))
-      behind Both in_a = (λ x. absurd (omega (arith, in_a k x)), λ (x, _). x)
-      behind First in_a = (λ x. absurd (omega (arith, in_a k x)), λ (x, _). x)
-
-  -- a turn of the loop, which makes word i of the two that stand there
-  pub one_merged : (v : ℕ) {words : List ℕ} {i : ℕ} → Made 64 (λ k. Kept how (In a k) (In b k)) a words i → i < length a
-      → ((k : ℕ) → (digit v k ≡ 1) ↔ Kept how (digit (get_or words i 0) k ≡ 1) (digit (get_or b i 0) k ≡ 1))
-      → Made 64 (λ k. Kept how (In a k) (In b k)) a (set words i v) (i + 1)
-  one_merged v {i = i} m l new = one_made m l (record {
-    exact = λ k h. Iff.trans (rw (m.rest i (le_refl i)) at (new k)) (kept_same how (in_word a i k h) (in_word b i k h));
-  })
+-- where the others are as they are to be, all words are
+pub all_written : {C : ℕ → ℕ → Type 0} {before words : List ℕ} {i : ℕ} → Written C before words i
+    → ((j : ℕ) → i ≤ j → j < 64 → C j (get_or before j 0)) → (j : ℕ) → j < 64 → C j (get_or words j 0)
+all_written {i = i} m stays j l =
+    elim (dec_lt j i) [
+      | yes h ↦ m.made j h
+      | no past ↦ rw (m.rest j (omega arith)) (stays j (omega arith) l)
+    ]
 
 -- where the others are right as they stand, the words are the set
 pub front_made : {P : ℕ → Type 0} {before words : List ℕ} {i : ℕ} (n : ℕ) → Made 64 P before words i → length before ≡ 64

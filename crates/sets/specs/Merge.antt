@@ -1,16 +1,12 @@
--- What is kept of two sets. Only inner contracts cite it.
-use Rattle.std.specs.Prelude.{ℕ, ◌⊎◌, List}
-use Rattle.sets.specs.Sets.{Inside}
-use Rattle.sets.specs.declared.merge.Merge.{Merge}
-use Rattle.sets.specs.declared.merge.Merge.TheVariants.{Either, Both, First}
+-- What becomes of two sets, word by word. Only inner contracts cite it. A call is of two words, and a word is what the call returns.
+use Rattle.std.specs.Prelude.{ℕ, ◌≤◌, ◌<◌, ◌≡◌, ◌⊎◌, List, get_or}
 
-abbrev pub Kept : Merge → Type 0 → Type 0 → Type 0
-Kept Either P Q = P ⊎ Q
-Kept Both P Q = P × Q
-Kept First P Q = P × ¬ Q
+-- each word comes from the two that stood in its place
+abbrev pub Merged : (ℕ → ℕ → ℕ → Type 0) → List ℕ → List ℕ → List ℕ → Type 0
+Merged how set other merged = (j : ℕ) → j < 64 → how (get_or set j 0) (get_or other j 0) (get_or merged j 0)
 
--- where they may be merged by the first n alone: behind those nothing comes to the set, or there is nothing in it to take away
-abbrev pub Front : Merge → ℕ → List ℕ → List ℕ → Type 0
-Front Either n set other = Inside n other
-Front Both n set other = Inside n set
-Front First n set other = Inside n set
+-- so does each, or it stands behind the first so many words and stays as it is
+abbrev pub FrontMerged : (ℕ → ℕ → ℕ → Type 0) → ℕ → List ℕ → List ℕ → List ℕ → Type 0
+FrontMerged how words set other merged =
+    (j : ℕ) → j < 64
+    → how (get_or set j 0) (get_or other j 0) (get_or merged j 0) ⊎ ((words ≤ j) × (get_or merged j 0 ≡ get_or set j 0))

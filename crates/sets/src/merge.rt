@@ -1,54 +1,28 @@
-// Two sets made into one. Each caller names its way as a constant, so that the compiler drops the match from the loop and does several
-// words at once.
-ghost use Rattle.std.specs.Prelude.{◌≡◌, ◌↔◌, ◌⊎◌, ℕ, ◌*◌};
-ghost use Rattle.sets.specs.Bits.{digit};
+// Two sets made into one. What becomes of two words is a closure, which the compiler puts into the loop and does for several words at once.
+ghost use Rattle.std.specs.Prelude.{◌⊎◌, ◌*◌};
 ghost use Rattle.sets.specs.Sets.{In, Holds, Inside};
-ghost use Rattle.sets.specs.Merge.{Kept, Front};
+ghost use Rattle.sets.specs.Merge.{Merged, FrontMerged};
 
-// What is kept: what is in either set, in both, or in the first and not in the second.
-#[derive(Clone, Copy)]
-pub enum Merge {
-    Either,
-    Both,
-    First,
-}
-
-// What is kept of two words, bit by bit.
-fn merged(how: Merge, a: u64, b: u64) -> u64
-    ensures { (k : ℕ) → (digit result k ≡ 1) ↔ Kept how (digit a k ≡ 1) (digit b k ≡ 1) }
+// Writes over each word of a set what becomes of it and the word of another.
+fn merge_into<F: Fn(u64, u64) -> u64>(set: &mut [u64; 64], other: &[u64; 64], how: F)
+    requires { F.IsAlwaysCallable how }
+    ensures { Merged (F.post how) set.old other.now set.new }
 {
-    match how {
-        Merge::Either => a | b,
-        Merge::Both => a & b,
-        Merge::First => (a | b) ^ b,
+    for (i, word) in set.iter_mut().enumerate() {
+        *word = how(*word, other[i]);
     }
 }
 
-// Writes over a set what is kept of it and another.
-fn merge_into(how: Merge, set: &mut [u64; 64], other: &[u64; 64])
-    ensures { Holds (λ k. Kept how (In set.old k) (In other.now k)) set.new }
-{
-    let words: &mut [u64] = set;
-    let others: &[u64] = other;
-    let mut i = 0;
-    while i < 64 {
-        words[i] = merged(how, words[i], others[i]);
-        i += 1;
-    }
-}
-
-// The same where the first so many words say it: where that is one word, no other is looked at. A loop of so many turns would take longer
-// where it is all of them.
-fn merge_front(how: Merge, set: &mut [u64; 64], other: &[u64; 64], words: usize)
-    requires { Front how (64 * words) set.old other.now }
-    ensures { Holds (λ k. Kept how (In set.old k) (In other.now k)) set.new }
+// The same for the first so many words, which are all that matter to the caller: where that is one word, no other is looked at. A loop of
+// so many turns would take longer where it is all of them.
+fn merge_front<F: Fn(u64, u64) -> u64>(set: &mut [u64; 64], other: &[u64; 64], words: usize, how: F)
+    requires { F.IsAlwaysCallable how }
+    ensures { FrontMerged (F.post how) words set.old other.now set.new }
 {
     if words == 1 {
-        let firsts: &mut [u64] = set;
-        let others: &[u64] = other;
-        firsts[0] = merged(how, firsts[0], others[0]);
+        set[0] = how(set[0], other[0]);
     } else {
-        merge_into(how, set, other);
+        merge_into(set, other, how);
     }
 }
 
@@ -57,7 +31,7 @@ pub fn add_front(set: &mut [u64; 64], other: &[u64; 64], words: usize)
     requires { Inside (64 * words) other.now }
     ensures { Holds (λ k. In set.old k ⊎ In other.now k) set.new }
 {
-    merge_front(Merge::Either, set, other, words);
+    merge_front(set, other, words, |a, b| a | b);
 }
 
 // Takes what is in another set out of the set, which stands in the first so many words.
@@ -65,7 +39,7 @@ pub fn take_front(set: &mut [u64; 64], other: &[u64; 64], words: usize)
     requires { Inside (64 * words) set.old }
     ensures { Holds (λ k. In set.old k × ¬ In other.now k) set.new }
 {
-    merge_front(Merge::First, set, other, words);
+    merge_front(set, other, words, |a, b| a & !b);
 }
 
 // What is in either set.
@@ -73,7 +47,7 @@ pub fn union(a: [u64; 64], b: [u64; 64]) -> [u64; 64]
     ensures { Holds (λ k. In a k ⊎ In b k) result }
 {
     let mut r = a;
-    merge_into(Merge::Either, &mut r, &b);
+    merge_into(&mut r, &b, |a, b| a | b);
     r
 }
 
@@ -82,7 +56,7 @@ pub fn common(a: [u64; 64], b: [u64; 64]) -> [u64; 64]
     ensures { Holds (λ k. In a k × In b k) result }
 {
     let mut r = a;
-    merge_into(Merge::Both, &mut r, &b);
+    merge_into(&mut r, &b, |a, b| a & b);
     r
 }
 
@@ -91,6 +65,6 @@ pub fn difference(a: [u64; 64], b: [u64; 64]) -> [u64; 64]
     ensures { Holds (λ k. In a k × ¬ In b k) result }
 {
     let mut r = a;
-    merge_into(Merge::First, &mut r, &b);
+    merge_into(&mut r, &b, |a, b| a & !b);
     r
 }

@@ -1,19 +1,20 @@
--- `sets::merge::merge_into`: the words before i are merged.
+-- `sets::merge::merge_into`: the words before i are merged, and the others stand as before.
+use Prim.Native.Nat.{ℕ}
+use native.Mathlib.Nat.{le_refl}
 use native.Mathlib.Omega.{arith}
-use borrow.Author.Rules.{rules}
-use Rattle.sets.proofs.Words.{none_made, one_merged, in_below, kept_below, all_made}
+use lib.ListN.{get_or}
+use Rattle.sets.proofs.Words.{none_made, one_made}
 use Rattle.sets.proofs.merge.merge_into.Goals as goal
 
 pub loop-i-init : goal.loop-i-init
-loop-i-init c = (omega arith, none_made _)
+loop-i-init g c = none_made _
 
 pub loop-i-preserved : goal.loop-i-preserved
-loop-i-preserved c =
+loop-i-preserved g c =
     let args = c.args in
-    (omega arith, one_merged args.how args.set.now args.other.now _ c.loop-i.invariant.1 (omega arith) c.merged.ensures)
+    let before = c.loop-i.invariant in
+    let C : ℕ → ℕ → Type 0 = λ j v. g.F.Fn.post args.how (get_or args.set.now j 0, (get_or args.other.now j 0, tt)) v in
+    one_made {C = C} before (omega arith) (rw (before.rest c.loop-i.i (le_refl _)) at c.how.ensures)
 
 pub returns : goal.returns
-returns c =
-    let args = c.args in
-    all_made c.loop-i.invariant.1 (search rules) c.loop-i-test.false
-    (kept_below args.how args.set.now args.other.now 4096 (in_below _ (search rules)) (in_below _ (search rules)))
+returns g c j l = c.loop-i.invariant.made j (omega arith)

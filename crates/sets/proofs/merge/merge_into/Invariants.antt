@@ -1,12 +1,9 @@
--- `sets::merge::merge_into`: the words before i are merged.
-use Prim.Native.Nat.{◌≤◌, ◌-◌}
-use Rattle.sets.specs.Sets.{In}
-use Rattle.sets.specs.Merge.{Kept}
-use Rattle.sets.proofs.Words.{Made}
+-- `sets::merge::merge_into`: the words before i are merged, and the others stand as before.
+use Prim.Native.Nat.{ℕ, ◌≤◌, ◌<◌}
+use mathlib.Core.Path.{◌≡◌}
+use lib.ListN.{get_or}
+use Rattle.sets.proofs.Words.{Written}
 use Rattle.sets.proofs.merge.merge_into.Given as goal
 
 abbrev pub invariant-loop-i : goal.invariant-loop-i
-invariant-loop-i l = (l.i ≤ 64) × Made 64 (λ k. Kept l.how (In l.initial.words k) (In l.others k)) l.initial.words l.words l.i
-
-abbrev pub decreases-loop-i : goal.decreases-loop-i
-decreases-loop-i l = 64 - l.i
+invariant-loop-i g l = Written (λ j v. goal.F-post g l.how (get_or l.initial.set j 0) (get_or l.other j 0) v) l.initial.set l.set l.i
