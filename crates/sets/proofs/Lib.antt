@@ -1,4 +1,5 @@
 pub mod Digits
 pub mod Words
+pub mod Parts
 pub mod Size
 pub mod Merging

@@ -17,6 +17,8 @@ use mir.Syntax.{w64}
 use mir.Val.{Fits}
 use lib.Bits.{bit_or}
 use borrow.Author.Count.{below_none, below_more}
+use Rattle.std.specs.List.{fold, sum_by}
+use Rattle.std.proofs.lemmas.List.Sums.{sum_by-cons}
 use Rattle.sets.specs.Bits.{digit, bit_of, ones}
 use Rattle.sets.specs.Sets.{In, Holds, Inside}
 use Rattle.sets.proofs.Digits.{same_digit, digit_mod, digit_shr, zero_digit, none_of_zero, not_one, digits_none}
@@ -187,23 +189,27 @@ bytes_made {set} {bytes = bytes} m e l k h =
 
 -- ---- what the words are asked
 
--- the or of the first words is 0 where each of them is
-pub none_more : {all : ℕ} (words : List ℕ) (i : ℕ) → (all ≡ 0) ↔ ((j : ℕ) → j < i → get_or words j 0 ≡ 0)
-    → (bit_or all (get_or words i 0) ≡ 0) ↔ ((j : ℕ) → j < i + 1 → get_or words j 0 ≡ 0)
-none_more {all} words i (f, g) = (
-  λ e. let (x, y) = (or_none all (get_or words i 0)).0 e in below_more (λ (j : ℕ). get_or words j 0 ≡ 0) i (f x) y,
-  λ none. (or_none all (get_or words i 0)).1 (g (λ j l. none j (omega arith)), none i (omega arith)),
+-- words or-ed together are 0 where each of them is
+pub none_of : (words : List ℕ) (n : ℕ) → (fold bit_or n words ≡ 0) ↔ ((n ≡ 0) × ((j : ℕ) → get_or words j 0 ≡ 0))
+none_of [] n = (λ e. (e, λ j. refl), λ h. h.0)
+none_of (word ∷ more) n = (
+  λ e.
+      let (both, none) = (none_of more (bit_or n word)).0 e in
+      let (first, second) = (or_none n word).0 both in
+      (first, each second none),
+  λ (first, none). (none_of more (bit_or n word)).1 ((or_none n word).1 (first, none 0), λ j. none (suc j)),
 )
+  where
+    each : word ≡ 0 → ((j : ℕ) → get_or more j 0 ≡ 0) → (j : ℕ) → get_or (word ∷ more) j 0 ≡ 0
+    each e none zero = e
+    each e none (suc j) = none j
 
 -- a set has no member where each of its words is 0
-pub no_member : (set : List ℕ) → length set ≡ 64 → ((j : ℕ) → Fits w64 (get_or set j 0))
-    → ((j : ℕ) → j < 64 → get_or set j 0 ≡ 0) ↔ ((k : ℕ) → ¬ In set k)
-no_member set e fits = (
-  λ none k m.
-      let inside = in_below set e k m in
-      none_of_zero (k % 64) (none (k / 64) (omega arith)) (member set k m),
-  λ none j l.
-      digits_none 64 (get_or set j 0) (fits j).fits
+pub no_member : (set : List ℕ) → ((j : ℕ) → get_or set j 0 < 2 ^ 64) → ((j : ℕ) → get_or set j 0 ≡ 0) ↔ ((k : ℕ) → ¬ In set k)
+no_member set fits = (
+  λ none k m. none_of_zero (k % 64) (none (k / 64)) (member set k m),
+  λ none j.
+      digits_none 64 (get_or set j 0) (fits j)
       (λ k h. not_one (get_or set j 0) k (λ o. none (64 * j + k) ((in_word set j k h).0 o))),
 )
 
@@ -214,12 +220,8 @@ no_first set front = (
   λ none k l d. none (64 * 0 + k) ((in_word set 0 k l).0 d),
 )
 
--- the ones of one word more
-pub ones_more : (words : List ℕ) (i : ℕ) → i < length words → ones (take i words) + Count.ones (get_or words i 0) ≡ ones (take (i + 1) words)
+-- the ones of the words, one behind the other
+pub ones_sum : (words : List ℕ) → sum_by Count.ones words ≡ ones words
 unfolding ones
-ones_more words i l = rw (add-one i) (next words i l)
-  where
-    next : (words : List ℕ) (i : ℕ) → i < length words → ones (take i words) + Count.ones (get_or words i 0) ≡ ones (take (suc i) words)
-    next [] i l = absurd (omega arith)
-    next (word ∷ more) zero l = omega arith
-    next (word ∷ more) (suc i) l = let h = next more i (omega arith) in omega arith
+ones_sum [] = refl
+ones_sum (word ∷ more) = sum_by-cons Count.ones word more ∙ ap (λ n. Count.ones word + n) (ones_sum more)

@@ -7,10 +7,8 @@ pub fn bytes(set: [u64; 64]) -> [u8; 512]
     ensures { (k : ℕ) → k < 4096 → bit_of 8 result k ≡ bit_of 64 set k }
 {
     let mut r = [0u8; 512];
-    let mut i = 0;
-    while i < 512 {
-        r[i] = ((set[i / 8] >> (8 * (i % 8))) % 256) as u8;
-        i += 1;
+    for (i, word) in set.iter().enumerate() {
+        r[8 * i..8 * i + 8].copy_from_slice(&word.to_le_bytes());
     }
     r
 }

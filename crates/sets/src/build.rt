@@ -14,9 +14,7 @@ pub fn add(set: &mut [u64; 64], k: usize)
     requires { k < 4096 }
     ensures { Holds (λ j. In set.old j ⊎ (k ≡ j)) set.new }
 {
-    let words: &mut [u64] = set;
-    let w = k / 64;
-    words[w] = words[w] | 1 << (k % 64);
+    set[k / 64] |= 1 << (k % 64);
 }
 
 // A word's share of the first n numbers, of which `before` stand in the words before it.
@@ -27,11 +25,7 @@ fn share(n: usize, before: usize) -> u64
         return 0;
     }
     let most = n - before;
-    if most < 64 {
-        (1 << most) - 1
-    } else {
-        18446744073709551615
-    }
+    if most < 64 { (1 << most) - 1 } else { u64::MAX }
 }
 
 // The first n numbers: all nodes of a roll.
@@ -40,10 +34,8 @@ pub fn below(n: usize) -> [u64; 64]
     ensures { Holds (λ k. k < n) result }
 {
     let mut r = [0u64; 64];
-    let mut i = 0;
-    while i < 64 {
-        r[i] = share(n, 64 * i);
-        i += 1;
+    for (i, word) in r.iter_mut().enumerate() {
+        *word = share(n, 64 * i);
     }
     r
 }

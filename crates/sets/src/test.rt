@@ -6,13 +6,7 @@ ghost use Rattle.sets.specs.Sets.{In, Inside};
 pub fn is_empty(a: [u64; 64]) -> bool
     ensures { T result ↔ ((k : ℕ) → ¬ In a k) }
 {
-    let mut all: u64 = 0;
-    let mut i = 0;
-    while i < 64 {
-        all = all | a[i];
-        i += 1;
-    }
-    all == 0
+    a.iter().fold(0, |all, word| all | word) == 0
 }
 
 // Whether a word has no member.
@@ -38,13 +32,7 @@ pub fn is_front_empty(set: &[u64; 64], words: usize) -> bool
 pub fn count(a: [u64; 64]) -> usize
     ensures { result ≡ ones a }
 {
-    let mut n: usize = 0;
-    let mut i = 0;
-    while i < 64 {
-        n += u64::count_ones(a[i]) as usize;
-        i += 1;
-    }
-    n
+    a.iter().map(|word| word.count_ones() as usize).sum()
 }
 
 // Whether k is in a set. It takes any number of words, since sets may stand behind each other in one list.

@@ -6,10 +6,10 @@ use Rattle.sets.proofs.Words.{none_made, one_made, all_made}
 use Rattle.sets.proofs.build.below.Goals as goal
 
 pub loop-i-init : goal.loop-i-init
-loop-i-init c = (omega arith, none_made _)
+loop-i-init c = none_made _
 
 pub loop-i-preserved : goal.loop-i-preserved
-loop-i-preserved c = (omega arith, one_made c.loop-i.invariant.1 (omega arith) (record { exact = c.share.ensures }))
+loop-i-preserved c = one_made c.loop-i.invariant (omega arith) (record { exact = c.share.ensures })
 
 pub returns : goal.returns
-returns c = all_made c.loop-i.invariant.1 refl c.loop-i-test.false (λ k l. lt_of_lt_of_le l c.requires)
+returns c = all_made c.loop-i.invariant refl c.loop-i-test.false (λ k l. lt_of_lt_of_le l c.requires)
