@@ -1,6 +1,5 @@
 -- Two sets made into one: what is made of the digits of their words is made of the sets. Assumes nothing.
-use Prim.Native.Nat.{ℕ, ◌*◌, ◌^◌, ◌≤◌, ◌<◌}
-use native.Mathlib.Omega.{arith}
+use Prim.Native.Nat.{ℕ, ◌^◌, ◌<◌}
 use mathlib.Core.Path.{◌≡◌}
 use mathlib.Core.Logic.Iff
 use mathlib.Core.Logic.{◌↔◌, ◌⊎◌, inl, ⊎_elim, ⊎_map}
@@ -10,8 +9,8 @@ use lib.Bits.{bit_and, bit_or}
 use mir.Syntax.{w64}
 use Rattle.std.specs.Int.{bit_not}
 use Rattle.sets.specs.Bits.{digit}
-use Rattle.sets.specs.Sets.{In, Holds, Inside}
-use Rattle.sets.proofs.Digits.{or_one, and_one, minus_one, not_one, digits_none}
+use Rattle.sets.specs.Sets.{In, Holds}
+use Rattle.sets.proofs.Digits.{or_one, and_one, minus_one}
 use Rattle.sets.proofs.Words.{in_word, in_below, holds_words}
 
 -- a digit of what is made of two words is what K makes of their digits, and K makes nothing of nothing
@@ -39,9 +38,3 @@ made_sets law a b r long_a long_b long fits each =
       exact = λ k h. rw (each j l)
           (Iff.trans (law.digits (get_or a j 0) (get_or b j 0) k (fits j) h) (law.same (in_word a j k h) (in_word b j k h)));
     })
-
--- behind the words in which a set stands, its words are 0
-pub no_word : (set : List ℕ) (words j : ℕ) → Inside (64 * words) set → get_or set j 0 < 2 ^ 64 → words ≤ j → get_or set j 0 ≡ 0
-no_word set words j inside fits past =
-    digits_none 64 (get_or set j 0) fits
-    (λ k h. not_one (get_or set j 0) k (λ o. let l = inside _ ((in_word set j k h).0 o) in omega arith))

@@ -11,7 +11,7 @@ use borrow.Rule.Slice.PartMut.{put_mid, post_of, same_len_mid}
 use Rattle.std.specs.Int.{to_le_bytes}
 use Rattle.std.proofs.lemmas.List.{length-take-le, get_or-take, get_or-drop, get_or-append_right}
 use Rattle.sets.specs.Sets.{In}
-use Rattle.sets.proofs.Words.{Word, Written, Made, byte_word}
+use Rattle.sets.proofs.Words.{Word, Written, byte_word}
 
 module _ {C : ℕ → ℕ → Type 0} {before words : List ℕ} (i n : ℕ) (ys : List ℕ) (m : Written C before words i) (e : length ys ≡ n) (room : i + n ≤ length before) where
   front : length (take i words) ≡ i

@@ -1,20 +1,17 @@
 -- Sets by their words: a loop that makes one word after the other makes the set. Assumes nothing.
 use Prim.Native.Nat.{ℕ, zero, suc, ◌+◌, ◌*◌, ◌/◌, ◌%◌, ◌^◌, ◌≤◌, ◌<◌}
-use native.Mathlib.Nat.{mul_comm, div-add-mod, div-lt_iff_lt-mul, le-div_iff_mul-le, mod-lt, le_refl, lt_of_not-le}
+use native.Mathlib.Nat.{mul_comm, div-add-mod, div-lt_iff_lt-mul, le-div_iff_mul-le, mod-lt, lt_of_not-le}
 use native.Mathlib.Decide.{ℕ_discrete, dec_lt}
-use native.Mathlib.Numerals.{add-one}
 use native.Mathlib.Omega.{arith}
 use mathlib.Core.Path.{◌≡◌, refl, sym, ap, ap₂, subst, ◌∙◌}
 use mathlib.Core.Logic.Iff
 use mathlib.Core.Logic.{◌↔◌, ◌⊎◌, inl, ⊎_elim, ⊎_map}
 use mathlib.Core.List.{List, [], ◌∷◌}
-use lib.ListN.{length, get_or, set, take, replicate, length-set, get_or-eq_default}
+use lib.ListN.{length, get_or, set, replicate, length-set, get_or-eq_default}
 use lib.Seq.{get_or-set_same, get_or-set_other}
 use lib.Dec.{lit<}
 use lib.Arith.{digits_div, digits_mod}
 use lib.Count as Count
-use mir.Syntax.{w64}
-use mir.Val.{Fits}
 use lib.Bits.{bit_or}
 use borrow.Author.Count.{below_none, below_more}
 use Rattle.std.specs.List.{fold, sum_by}
@@ -213,12 +210,21 @@ no_member set fits = (
       (λ k h. not_one (get_or set j 0) k (λ o. none (64 * j + k) ((in_word set j k h).0 o))),
 )
 
--- nor has one that stands in its first word, where that word has no digit
-pub no_first : (set : List ℕ) → Inside 64 set → ((k : ℕ) → k < 64 → ¬ (digit (get_or set 0 0) k ≡ 1)) ↔ ((k : ℕ) → ¬ In set k)
-no_first set front = (
-  λ none k m. let first : 64 * 0 + k ≡ k = omega arith in none k (front k m) ((in_word set 0 k (front k m)).1 (rw first m)),
-  λ none k l d. none (64 * 0 + k) ((in_word set 0 k l).0 d),
-)
+-- behind the words in which a set stands, its words are 0
+pub no_word : (set : List ℕ) (words j : ℕ) → Inside (64 * words) set → get_or set j 0 < 2 ^ 64 → words ≤ j → get_or set j 0 ≡ 0
+no_word set words j inside fits past =
+    digits_none 64 (get_or set j 0) fits
+    (λ k h. not_one (get_or set j 0) k (λ o. let l = inside _ ((in_word set j k h).0 o) in omega arith))
+
+-- so one that stands in its first word has no member where that is 0
+pub no_first : (set : List ℕ) (words : ℕ) → words ≡ 1 → Inside (64 * words) set → ((j : ℕ) → get_or set j 0 < 2 ^ 64)
+    → (get_or set 0 0 ≡ 0) ↔ ((k : ℕ) → ¬ In set k)
+no_first set words one inside fits =
+    Iff.trans (λ e. word e, λ none. none 0) (no_member set fits)
+  where
+    word : get_or set 0 0 ≡ 0 → (j : ℕ) → get_or set j 0 ≡ 0
+    word e zero = e
+    word e (suc j) = no_word set words (suc j) inside (fits (suc j)) (omega arith)
 
 -- the ones of the words, one behind the other
 pub ones_sum : (words : List ℕ) → sum_by Count.ones words ≡ ones words

@@ -5,9 +5,11 @@
 mod bitmap;
 mod build;
 mod merge;
+mod ones;
 mod test;
 
 pub use bitmap::bytes;
 pub use build::{add, below, empty};
 pub use merge::{add_front, common, difference, take_front, union};
+pub use ones::{Ones, keep};
 pub use test::{count, has, is_empty, is_front_empty};

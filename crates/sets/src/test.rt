@@ -1,6 +1,6 @@
 // What is asked of a set.
 ghost use Rattle.std.specs.Prelude.{◌≡◌, ◌↔◌, ℕ, ◌*◌, ◌<◌, T, length};
-ghost use Rattle.sets.specs.Bits.{digit, ones};
+ghost use Rattle.sets.specs.Bits.{ones};
 ghost use Rattle.sets.specs.Sets.{In, Inside};
 
 pub fn is_empty(a: [u64; 64]) -> bool
@@ -9,20 +9,13 @@ pub fn is_empty(a: [u64; 64]) -> bool
     a.iter().fold(0, |all, word| all | word) == 0
 }
 
-// Whether a word has no member.
-fn is_zero(word: u64) -> bool
-    ensures { T result ↔ ((k : ℕ) → k < 64 → ¬ (digit word k ≡ 1)) }
-{
-    word == 0
-}
-
 // Whether a set is empty whose members all stand in the first so many words: where that is one word, no other is looked at.
 pub fn is_front_empty(set: &[u64; 64], words: usize) -> bool
     requires { Inside (64 * words) set.now }
     ensures { T result ↔ ((k : ℕ) → ¬ In set.now k) }
 {
     if words == 1 {
-        is_zero(set[0])
+        set[0] == 0
     } else {
         is_empty(*set)
     }

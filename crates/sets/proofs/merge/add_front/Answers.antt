@@ -1,15 +1,13 @@
 -- `sets::merge::add_front`: behind the other set an or keeps what it is given.
 use Prim.Native.Nat.{ℕ, ◌≤◌, ◌<◌}
-use native.Mathlib.Omega.{arith}
 use mathlib.Core.Path.{◌≡◌, sym, ◌∙◌}
 use mathlib.Core.Logic.{⊎_elim}
 use lib.ListN.{get_or}
-use lib.Bits.{bit_and, bit_or}
+use lib.Bits.{bit_or}
 use borrow.Author.Rules.{rules}
-use mir.Syntax.{w64}
-use Rattle.std.specs.Int.{bit_not}
 use Rattle.std.specs.Int.Bits.{or_zero_r}
-use Rattle.sets.proofs.Merging.{either, made_sets, no_word}
+use Rattle.sets.proofs.Merging.{either, made_sets}
+use Rattle.sets.proofs.Words.{no_word}
 use Rattle.sets.proofs.merge.add_front.Goals as goal
 
 pub returns : goal.returns

@@ -1,12 +1,9 @@
 -- `sets::merge::common`: what is in both, word by word.
-use Prim.Native.Nat.{ℕ, ◌≤◌, ◌<◌}
-use native.Mathlib.Omega.{arith}
+use Prim.Native.Nat.{ℕ, ◌<◌}
 use mathlib.Core.Path.{◌≡◌}
 use lib.ListN.{get_or}
-use lib.Bits.{bit_and, bit_or}
+use lib.Bits.{bit_and}
 use borrow.Author.Rules.{rules}
-use mir.Syntax.{w64}
-use Rattle.std.specs.Int.{bit_not}
 use Rattle.sets.proofs.Merging.{both, made_sets}
 use Rattle.sets.proofs.merge.common.Goals as goal
 

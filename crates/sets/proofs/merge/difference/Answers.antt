@@ -1,9 +1,8 @@
 -- `sets::merge::difference`: what is in the first and not in the second, word by word.
-use Prim.Native.Nat.{ℕ, ◌≤◌, ◌<◌}
-use native.Mathlib.Omega.{arith}
+use Prim.Native.Nat.{ℕ, ◌<◌}
 use mathlib.Core.Path.{◌≡◌}
 use lib.ListN.{get_or}
-use lib.Bits.{bit_and, bit_or}
+use lib.Bits.{bit_and}
 use borrow.Author.Rules.{rules}
 use mir.Syntax.{w64}
 use Rattle.std.specs.Int.{bit_not}

@@ -14,7 +14,7 @@ loop-i-preserved g c =
     let args = c.args in
     let before = c.loop-i.invariant in
     let C : ℕ → ℕ → Type 0 = λ j v. g.F.Fn.post args.how (get_or args.set.now j 0, (get_or args.other.now j 0, tt)) v in
-    one_made {C = C} before (omega arith) (rw (before.rest c.loop-i.i (le_refl _)) at c.how.ensures)
+    one_made {C = C} {v = c.how.result} before (omega arith) (rw (before.rest c.loop-i.i (le_refl _)) at c.how.ensures)
 
 pub returns : goal.returns
 returns g c j l = c.loop-i.invariant.made j (omega arith)

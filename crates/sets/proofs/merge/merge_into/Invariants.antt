@@ -1,6 +1,4 @@
 -- `sets::merge::merge_into`: the words before i are merged, and the others stand as before.
-use Prim.Native.Nat.{ℕ, ◌≤◌, ◌<◌}
-use mathlib.Core.Path.{◌≡◌}
 use lib.ListN.{get_or}
 use Rattle.sets.proofs.Words.{Written}
 use Rattle.sets.proofs.merge.merge_into.Given as goal

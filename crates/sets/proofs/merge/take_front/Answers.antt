@@ -1,15 +1,15 @@
 -- `sets::merge::take_front`: behind the set there is nothing to take away from.
 use Prim.Native.Nat.{ℕ, ◌≤◌, ◌<◌}
-use native.Mathlib.Omega.{arith}
 use mathlib.Core.Path.{◌≡◌, sym, ◌∙◌}
 use mathlib.Core.Logic.{⊎_elim}
 use lib.ListN.{get_or}
-use lib.Bits.{bit_and, bit_or}
+use lib.Bits.{bit_and}
 use borrow.Author.Rules.{rules}
 use mir.Syntax.{w64}
 use Rattle.std.specs.Int.{bit_not}
 use Rattle.std.specs.Int.Bits.{and_zero_l}
-use Rattle.sets.proofs.Merging.{first, made_sets, no_word}
+use Rattle.sets.proofs.Merging.{first, made_sets}
+use Rattle.sets.proofs.Words.{no_word}
 use Rattle.sets.proofs.merge.take_front.Goals as goal
 
 pub returns : goal.returns
