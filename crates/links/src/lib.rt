@@ -13,19 +13,16 @@ use roll::{count, previous_of};
 pub const NONE: u16 = 65535;
 
 // Fills in the links, none of which is there at first.
+#[tactic(auto, using(roll::proofs::Deciding::roll_most))]
 pub fn link(roll: &[u8], links: &mut [u16; 8192])
     requires roll { Roll roll.now }
     requires links_value { links.old ≡ replicate 8192 65535 }
     ensures { Siblings (nodes roll.now) links.new }
 {
-    let n = count(roll);
-    let mut j = 0;
-    while j < n {
-        let before = previous_of(roll, j);
-        if let Some(i) = before {
+    for j in 0..count(roll) {
+        if let Some(i) = previous_of(roll, j) {
             links[4096 + j] = i as u16;
             links[i] = j as u16;
         }
-        j += 1;
     }
 }
