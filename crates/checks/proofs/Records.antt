@@ -16,8 +16,6 @@ use Rattle.tree.specs.Tree.{Label}
 use Rattle.tree.proofs.Tests.{Decides, less_test, equal_test, and_test, or_test, same_test}
 use Rattle.query.specs.Kind.{Sort, filter, kinds, find}
 use Rattle.query.specs.Table.{Entry, Entries, entries, entry_at, row_at, HasSort}
-use Rattle.tables.specs.Shape.{sort_of}
-use Rattle.tables.proofs.Entries.{sort_at}
 use Rattle.view.specs.Annotation.{AnnotationRecord, records, record_at, RecordForm, Ascends, AboveLast}
 use Rattle.checks.specs.declared.annotation.Record.{Record}
 use Rattle.checks.specs.Fields.{Fields}
@@ -71,17 +69,15 @@ was_read : {g : AnnotationRecord} {r : Record} → Fields g r → g ≡ given r
 was_read f = λ i. record { parent = sym f.parent i; child = sym f.child i; filter = sym f.filter i; rest = sym f.rest i }
 
 -- four tests decide whether a record has two labels, ends in zero bytes and names a filter entry
-pub form_test : (es : Entries) {g : AnnotationRecord} {r : Record} {parent child : Bool} {n : ℕ} → Fields g r
-    → Decides parent (Label r.parent) → Decides child (Label r.child) → n ≡ sort_of (row_at es r.filter)
-    → Decides (((parent && child) && eqb r.rest 0) && eqb n 2) (RecordForm es g)
-form_test es {r = r} {n = n} f parent child e =
+pub form_test : (es : Entries) {g : AnnotationRecord} {r : Record} {parent child sorted : Bool} → Fields g r
+    → Decides parent (Label r.parent) → Decides child (Label r.child) → Decides sorted (HasSort es r.filter filter)
+    → Decides (((parent && child) && eqb r.rest 0) && sorted) (RecordForm es g)
+form_test es {r = r} f parent child sorted =
     rw (was_read f)
     (same_test
-    (and_test (and_test (and_test parent child) (equal_test r.rest 0)) (equal_test n 2)) (
-      λ p.
-          let sorted : HasSort es r.filter filter = (sort_at es r.filter filter).0 (sym e ∙ p.1) in
-          record { parent = p.0.0.0; child = p.0.0.1; rest = p.0.1; named = sorted_named sorted; filter = sorted },
-      λ (q : RecordForm es (given r)). (((q.parent, q.child), q.rest), e ∙ (sort_at es r.filter filter).1 q.filter),
+    (and_test (and_test (and_test parent child) (equal_test r.rest 0)) sorted) (
+      λ p. record { parent = p.0.0.0; child = p.0.0.1; rest = p.0.1; named = sorted_named p.1; filter = p.1 },
+      λ (q : RecordForm es (given r)). (((q.parent, q.child), q.rest), q.filter),
     ))
 
 module _ (b : Bytes) where

@@ -7,7 +7,7 @@ ghost use Rattle.checks.specs.Checks.{RecordChecked, AnnotationChecked};
 
 use crate::annotation::{count, record_at};
 use reply::{RECORDS, Reason, Reply, refuse};
-use tables::{FILTER, sort_at, whole};
+use tables::{Sort, has_sort, whole};
 use tree::is_label;
 
 // Whether record i has two labels, ends in zero bytes and names a filter entry.
@@ -16,7 +16,7 @@ fn form_fits(annotation: &[u8], filters: &[u8], i: usize) -> bool
 {
     let own = record_at(annotation, i);
     let labels = is_label(own.parent) & is_label(own.child);
-    labels & (own.rest == 0) & (sort_at(filters, own.filter) == FILTER)
+    labels & (own.rest == 0) & has_sort(filters, own.filter, Sort::Filter)
 }
 
 // Whether the pair of record i is above the one before: "by parent label and then child label".

@@ -3,15 +3,12 @@
 use Prim.Native.Nat.{ℕ, ◌+◌, ◌*◌, ◌/◌, ◌≤◌, ◌<◌}
 use native.Mathlib.Numerals.{towards_suc}
 use native.Mathlib.Omega.{arith}
-use mathlib.Core.Path.{◌≡◌, refl, ap, ◌∙◌, subst}
-use mathlib.Core.Logic.{◌↔◌}
+use mathlib.Core.Path.{◌≡◌, refl, ◌∙◌, subst}
 use mathlib.Core.List.{[], ◌∷◌}
-use mathlib.Core.Option.{Option, none, some}
 use lib.ListN.{length, get_or, set}
 use lib.Seq.{sets}
 use Rattle.reply.specs.Bytes.{Bytes, two, two_bytes}
-use Rattle.query.specs.Kind as kind
-use Rattle.query.specs.Kind.{path, filter, of, Row, row_of}
+use Rattle.query.specs.Kind.{row_of}
 use Rattle.query.specs.Table as table
 use Rattle.query.specs.Table.{Entries, entries, entry_bytes, entry_at, row_at, HasSort}
 use Rattle.query.proofs.Tables.{entries_length, entry_from, entry_bytes_lem, no_entry}
@@ -19,7 +16,7 @@ use Rattle.tables.specs.declared.entry.Entry.{Entry}
 use Rattle.tables.specs.Fields.{Fields}
 use Rattle.tables.specs.Laid.{laid, fields}
 use Rattle.tables.specs.declared.kinds.Shape.{Shape}
-use Rattle.tables.specs.Shape.{sort_of, Shaped}
+use Rattle.tables.specs.Shape.{Shaped}
 
 module _ (b : Bytes) (i : ℕ) where
   -- the six bytes from 6 i on are entry i
@@ -46,11 +43,3 @@ stored out n kind label left right one other = other ∙ rw one (simp towards_su
 -- What was read of an entry, said of the entry: the shape of the kind that was read is that of its kind.
 pub shape_read : {e : table.Entry} {read : Entry} {shape : Shape} → Fields e read → Shaped (row_of read.kind) shape → Shaped (row_of e.kind) shape
 shape_read {shape = shape} fields shaped = subst (λ (kind : ℕ). Shaped (row_of kind) shape) fields.kind shaped
-
--- the sort found for an entry says whether it has that sort
-pub sort_at : (es : Entries) (i : ℕ) (s : kind.Sort) → (sort_of (row_at es i) ≡ of s) ↔ HasSort es i s
-sort_at es i s = (go (row_at es i) refl, λ h. ap sort_of h.listed ∙ ap of h.sort)
-  where
-    go : (row : Option Row) → row_at es i ≡ row → sort_of row ≡ of s → HasSort es i s
-    go none e n = absurd (grind arith)
-    go (some row) e n = record { row = row; listed = e; sort = grind arith }

@@ -1,20 +1,20 @@
 // An entry whose operands stand elsewhere is written.
 ghost use Rattle.std.specs.Prelude.{◌≡◌, [], ◌∷◌, ◌+◌};
 ghost use Rattle.written.specs.Written.{moved, raise};
+ghost use Rattle.tables.specs.Shape.{operand};
 ghost use Rattle.tables.specs.Laid.{laid, fields};
 ghost use Rattle.writer.specs.Laid.{Room, Short};
 
-use tables::{NONE, put, shape_of};
+use tables::{Sort, put, shape_of};
 
 // An operand's number, raised by a distance where the field is used.
-fn raised(sort: u8, number: usize, distance: usize) -> usize
+fn raised(sort: Option<Sort>, number: usize, distance: usize) -> usize
     requires { Short number × Short distance }
-    ensures { result ≡ moved (λ x. x + distance) sort number }
+    ensures { result ≡ moved (λ x. x + distance) (operand sort) number }
 {
-    if sort == NONE {
-        number
-    } else {
-        number + distance
+    match sort {
+        None => number,
+        Some(_) => number + distance,
     }
 }
 

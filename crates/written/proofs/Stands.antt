@@ -15,7 +15,7 @@ use Rattle.query.specs.Table.{Entry, Entries, entry_at, row_at, HasSort, LabelFi
 use Rattle.query.proofs.Rows.{Each, ◌&◌, no_more, row_found}
 use Rattle.query.proofs.Tables.{read_length, read_append, read_prefix, read_at}
 use Rattle.query.proofs.Appended.{sort_kept, right_kept, AllRight, sort_at_end, right_at_end}
-use Rattle.tables.specs.Shape.{operand_number, left_of, right_of}
+use Rattle.tables.specs.Shape.{left_of, right_of}
 use Rattle.written.specs.Written.{moved, renumber}
 
 -- what stands where there is nothing
@@ -213,23 +213,23 @@ module _ {c : ℕ} {to : ℕ → ℕ} {s : List Meant} {hs : List ℕ} {table : 
   moves : Entry
   moves = renumber to e
 
-  moves_left : moves.left ≡ moved to (operand_number row.left) e.left
+  moves_left : moves.left ≡ moved to row.left e.left
   unfolding moves renumber row
   moves_left = ap (λ (r : Option Row). moved to (left_of r) e.left) ordered.listed
 
-  moves_right : moves.right ≡ moved to (operand_number row.right) e.right
+  moves_right : moves.right ≡ moved to row.right e.right
   unfolding moves renumber row
   moves_right = ap (λ (r : Option Row). moved to (right_of r) e.right) ordered.listed
 
   -- its operands are in order
-  operand_right : (o : Operand) (x : ℕ) → Named s o x → OperandField table (length table) o (moved to (operand_number o) x)
+  operand_right : (o : Operand) (x : ℕ) → Named s o x → OperandField table (length table) o (moved to o x)
   unfolding Named OperandField moved
   operand_right unused x h = h
   operand_right (of path) x h = let st = stood.each x h.0 in (st.inside, rw h.1 at st.sort)
   operand_right (of filter) x h = let st = stood.each x h.0 in (st.inside, rw h.1 at st.sort)
 
   -- they stand for what they should
-  operand_carries : (o : Operand) (x : ℕ) → Named s o x → Carries s (meanings table) o x (moved to (operand_number o) x)
+  operand_carries : (o : Operand) (x : ℕ) → Named s o x → Carries s (meanings table) o x (moved to o x)
   unfolding Named moved
   operand_carries unused x h = tt
   operand_carries (of path) x h = (stood.each x h.0).means
@@ -237,7 +237,7 @@ module _ {c : ℕ} {to : ℕ → ℕ} {s : List Meant} {hs : List ℕ} {table : 
 
   -- they are no higher than they should be
   operand_low : (o : Operand) (x : ℕ) → Named s o x
-      → operand_height (read_on height [] table) o (moved to (operand_number o) x) ≤ c + operand_height hs o x
+      → operand_height (read_on height [] table) o (moved to o x) ≤ c + operand_height hs o x
   unfolding Named moved operand_height height_at
   operand_low unused x h = omega arith
   operand_low (of path) x h = (stood.each x h.0).low

@@ -1,8 +1,8 @@
 -- The entries of a rewritten query, behind those of the filter table: for the annotation's records, for who is visible and the four axes of
 -- the view, and one for each entry of the query. Nothing here has to be believed: the laws say what the table stands for, and call 5's
 -- promise is stated without it.
-use Rattle.std.specs.Prelude.{ℕ, zero, suc, ◌+◌, ◌-◌, ◌*◌, List, [], ◌∷◌, ◌++◌, map, length, get_or}
-use Rattle.query.specs.Kind.{row_of}
+use Rattle.std.specs.Prelude.{ℕ, ◌+◌, ◌-◌, ◌*◌, List, [], ◌∷◌, ◌++◌, map, length, get_or}
+use Rattle.query.specs.Kind.{Operand, unused, of, row_of}
 use Rattle.query.specs.Table.{Entry, Entries}
 use Rattle.tables.specs.Shape.{left_of, right_of}
 use Rattle.view.specs.Annotation.{AnnotationRecord}
@@ -15,10 +15,10 @@ entry kind left right = record { kind = kind; label = 0; left = left; right = ri
 abbrev pub label_entry : ℕ → Entry
 label_entry label = record { kind = 16; label = label; left = 0; right = 0 }
 
--- The number of an operand that stands elsewhere, by the number of its sort, which is 0 where the field is unused.
-unfoldable pub moved : (ℕ → ℕ) → ℕ → ℕ → ℕ
-moved to zero x = x
-moved to (suc sort) x = to x
+-- The number of an operand that stands elsewhere; a field that is unused stays as it is.
+unfoldable pub moved : (ℕ → ℕ) → Operand → ℕ → ℕ
+moved to unused x = x
+moved to (of sort) x = to x
 
 -- An entry whose operands stand elsewhere.
 unfoldable pub renumber : (ℕ → ℕ) → Entry → Entry

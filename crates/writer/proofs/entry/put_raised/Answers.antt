@@ -2,7 +2,7 @@
 use Prim.Native.Nat.{ℕ, ◌+◌}
 use mathlib.Core.Path.{ap, ap₂, ◌∙◌}
 use mathlib.Core.List.{[], ◌∷◌}
-use Rattle.query.specs.Kind.{row_of}
+use Rattle.query.specs.Kind.{Operand, row_of}
 use Rattle.tables.specs.Shape.{Shaped}
 use Rattle.written.specs.Written.{moved, renumber}
 use Rattle.tables.specs.Laid.{laid, fields}
@@ -16,5 +16,5 @@ returns c =
     let to : ℕ → ℕ = λ x. x + a.distance in
     c.put.ensures
     ∙ ap₂ (λ (l r : ℕ). laid a.out.now a.at (fields a.kind a.label l r ∷ []))
-    (c.raised-new_left.ensures ∙ ap (λ (sort : ℕ). moved to sort a.left) shaped.left)
-    (c.raised-new_right.ensures ∙ ap (λ (sort : ℕ). moved to sort a.right) shaped.right)
+    (c.raised-new_left.ensures ∙ ap (λ (o : Operand). moved to o a.left) shaped.left)
+    (c.raised-new_right.ensures ∙ ap (λ (o : Operand). moved to o a.right) shaped.right)
