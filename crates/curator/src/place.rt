@@ -10,19 +10,15 @@ pub(crate) fn positions_of(shown: &[u64; 64], members: &[u64; 64], n: usize) -> 
     requires { (n ≤ 4096) × Inside n shown.now }
     ensures { Image (Position (In shown.now)) members.now result }
 {
-    let seen: &[u64] = shown;
-    let chosen: &[u64] = members;
     let mut positions = empty();
     let mut position: usize = 0;
-    let mut i = 0;
-    while i < n {
-        if has(seen, i) {
-            if has(chosen, i) {
+    for i in 0..n {
+        if has(shown, i) {
+            if has(members, i) {
                 add(&mut positions, position);
             }
             position += 1;
         }
-        i += 1;
     }
     positions
 }
