@@ -1,21 +1,21 @@
 -- What is kept of stars says what was asked and found, and asking an expression of a set keeps it true, kind by kind. Assumes nothing.
-use Prim.Native.Nat.{ℕ, zero, suc, ◌+◌, min}
+use Prim.Native.Nat.{ℕ, zero, suc, ◌+◌, ◌<◌, min}
 use native.Mathlib.Omega.{arith}
 use mathlib.Core.Path.{◌≡◌, refl, sym, ap, subst, ◌∙◌}
 use mathlib.Core.Logic.{◌↔◌, ◌⊎◌, inl, inr, ⊎_elim, ⊎_map}
 use mathlib.Core.Bool.{false}
 use mathlib.Core.List.{List, [], ◌∷◌, ◌++◌}
 use lib.Dec.{T}
-use lib.ListN.{length, take, drop, length-append, length-take, length-drop}
-use lib.Seq.{take-append_seam, drop-append_seam, get_or-take, get_or-drop}
-use Rattle.std.specs.List.{FoldsTo}
+use lib.ListN.{length, get_or, set, take, drop, length-append, length-take, length-drop}
+use lib.Seq.{take-append_seam, drop-append_seam, get_or-take, get_or-drop, get_or-set_same, get_or-set_other}
+use borrow.Author.Count.{below_more}
 use Rattle.tree.proofs.Tests.{passes, or_test}
 use Rattle.query.proofs.Closure.{star_keeps}
 use Rattle.sets.specs.Sets.{In, Holds, Image, Inside}
 use Rattle.sets.proofs.Size.{in_test}
 use Rattle.rules.specs.Language.{Expression, empty, one, then, either, star, Word}
 use Rattle.matching.specs.Spans.{Spans}
-use Rattle.matching.specs.Settled.{Places, members, and_those, Kept, stars, share, Passed, Cleared}
+use Rattle.matching.specs.Settled.{Places, members, and_those, Kept, stars, share, Passed, EmptyTo, Cleared}
 use Rattle.matching.specs.Settled.{Settled, nothing, one_label, in_turn, one_of_two, same_twice, alone, gone_on}
 use Rattle.matching.proofs.Spanning.{spans_empty, spans_then, spans_either, spans_star}
 
@@ -46,12 +46,13 @@ pub one_cleared : {none : List ℕ} → Holds (λ k. ⊥) none → Cleared (none
 one_cleared none zero l k x = (none.exact k).0 x
 one_cleared none (suc i) l k x = absurd (omega (arith, l))
 
--- each was put there by a call that gives one
-pub all_cleared : {S : Type 0} (R : S → List ℕ → S → Type 0) → ((f : S) (set : List ℕ) (g : S) → R f set g → Holds (λ k. ⊥) set)
-    → (f : S) (kept : Kept) (g : S) → FoldsTo R f kept g → Cleared kept
-all_cleared R none f [] g steps i l k x = absurd (omega (arith, l))
-all_cleared R none f (set ∷ kept) g (next, given, more) zero l k x = ((none f set next given).exact k).0 x
-all_cleared R none f (set ∷ kept) g (next, given, more) (suc i) l k x = all_cleared R none next kept g more i (omega arith) k x
+-- one more is emptied
+pub one_emptied : (kept : Kept) {i : ℕ} {none : List ℕ} → EmptyTo kept i → i < length kept → Holds (λ k. ⊥) none
+    → EmptyTo (set kept i none) (i + 1)
+one_emptied kept {i} {none} before room holds =
+    below_more (λ j. (k : ℕ) → ¬ In (get_or (set kept i none) j []) k) i
+    (λ j l k x. before j l k (subst (λ (s : List ℕ). In s k) (get_or-set_other kept i j none [] (omega arith)) x))
+    (λ k x. (holds.exact k).0 (subst (λ (s : List ℕ). In s k) (get_or-set_same kept i none [] room) x))
 
 cleared_front : (kept : Kept) (n : ℕ) → Cleared kept → Cleared (take n kept)
 cleared_front kept n none i l k x =

@@ -7,7 +7,7 @@ mod stars;
 
 ghost use Rattle.std.specs.Prelude.{◌↔◌, ◌≡◌, ℕ, ◌<◌, ◌∷◌, min, T, length};
 ghost use Rattle.query.specs.Table.{entries};
-ghost use Rattle.sets.specs.Sets.{Holds, Image};
+ghost use Rattle.sets.specs.Sets.{Image};
 ghost use Rattle.rules.specs.Language.{InLanguage, either, star};
 ghost use Rattle.rules.specs.Table.{EntryRight, expression_at};
 ghost use Rattle.matching.specs.Spans.{Spans, Used};
@@ -45,11 +45,9 @@ fn words_of(word: &[u8]) -> usize
 fn clear(kept: &mut [[u64; 64]])
     ensures { Cleared kept.new }
 {
-    kept.fill_with(
-        ||
-            ensures { Holds (λ k. ⊥) result }
-        { empty() },
-    );
+    for set in kept.iter_mut() {
+        *set = empty();
+    }
 }
 
 impl<'a> Matching<'a> {

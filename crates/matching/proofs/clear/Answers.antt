@@ -1,6 +1,14 @@
--- `clear`: each set is put there by a call that gives one without members.
-use Rattle.matching.proofs.Settling.{all_cleared}
+-- `clear`: the sets that the loop has passed have no member.
+use native.Mathlib.Omega.{arith}
+use borrow.Author.Count.{below_none}
+use Rattle.matching.proofs.Settling.{one_emptied}
 use Rattle.matching.proofs.clear.Goals as goal
 
+pub loop-set-init : goal.loop-set-init
+loop-set-init c = below_none _
+
+pub loop-set-preserved : goal.loop-set-preserved
+loop-set-preserved c = one_emptied c.loop-set.kept c.loop-set.invariant (omega arith) c.empty.ensures
+
 pub returns : goal.returns
-returns c = all_cleared _ (λ f set g step. step.met) _ _ _ c.fill_with.ensures.ran.1
+returns c = λ j l. c.loop-set.invariant j (omega arith)
