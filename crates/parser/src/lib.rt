@@ -10,10 +10,10 @@ ghost use Rattle.tokens.specs.Reading.{outer_chain, inner_chain, chains, links};
 
 use derivation::Bracket;
 use reply::OPEN_BRACKETS;
-use tables::{ALWAYS, LEADS, NEVER, NOT, STAR, STAY};
+use tables::Kind;
 use tokens::{
-    Parsed, Sort, axis, behind, byte_at, closed, closing, inner, joined, joint, labelled, leaf,
-    outer, passed, past_nots, put,
+    Parsed, Read, Sort, Stopped, axis, behind, byte_at, closed, closing, inner, joined, joint,
+    labelled, leaf, outer, past_nots, put,
 };
 
 // "path: sequences joined by `|`"
@@ -45,29 +45,22 @@ fn chained(text: &[u8], at: usize, depth: usize, table: &mut [u8], count: usize,
     let mut begun = count;
     let mut left = count;
     loop {
-        let more = link(text, next, depth, table, left, of);
-        let Parsed::Got {
-            at: last,
-            count: right,
-        } = more
-        else {
-            return passed(more);
-        };
-        left = joined(table, begun, left, right, inner(of));
-        let byte = byte_at(text, last);
+        let read = link(text, next, depth, table, left, of)?;
+        left = joined(table, begun, left, read.count, inner(of));
+        let byte = byte_at(text, read.at);
         if byte == joint(inner(of)) {
-            next = last + 1;
+            next = read.at + 1;
             continue;
         }
         begun = joined(table, count, begun, left, outer(of));
         left = begun;
         if byte != joint(outer(of)) {
-            return Parsed::Got {
-                at: last,
+            return Ok(Read {
+                at: read.at,
                 count: left,
-            };
+            });
         }
-        next = last + 1;
+        next = read.at + 1;
     }
 }
 
@@ -89,23 +82,13 @@ fn item(text: &[u8], at: usize, depth: usize, table: &mut [u8], count: usize) ->
     requires { RoomAhead text.now at table.old count }
     ensures { Follows items depth text.now at table.old count result table.new }
 {
-    let first = atom(text, at, depth, table, count);
-    let Parsed::Got {
-        at: mut next,
-        count: mut written,
-    } = first
-    else {
-        return passed(first);
-    };
-    while byte_at(text, next) == b'*' {
-        put(table, written, STAR, 0, written - 1, 0);
-        next += 1;
-        written += 1;
+    let mut read = atom(text, at, depth, table, count)?;
+    while byte_at(text, read.at) == b'*' {
+        put(table, read.count, Kind::Star, 0, read.count - 1, 0);
+        read.at += 1;
+        read.count += 1;
     }
-    Parsed::Got {
-        at: next,
-        count: written,
-    }
+    Ok(read)
 }
 
 // "atom: `.` self, `v` child, `^` parent, `>` next, `<` previous, `[` filter `]`, `(` path `)`"
@@ -114,19 +97,19 @@ fn atom(text: &[u8], at: usize, depth: usize, table: &mut [u8], count: usize) ->
     requires { RoomAhead text.now at table.old count }
     ensures { Follows atoms depth text.now at table.old count result table.new }
 {
-    let byte = byte_at(text, at);
-    if byte == b'[' {
-        let inner = bracketed(text, at, depth, table, count, Bracket::Square);
-        return behind(table, inner, STAY);
+    match byte_at(text, at) {
+        b'[' => {
+            let inner = bracketed(text, at, depth, table, count, Bracket::Square);
+            behind(table, inner, Kind::Stay)
+        }
+        b'(' => bracketed(text, at, depth, table, count, Bracket::Round),
+        byte => {
+            let Some(kind) = axis(byte) else {
+                return Err(Stopped::Broken(at));
+            };
+            leaf(table, count, kind, 0, at + 1)
+        }
     }
-    if byte == b'(' {
-        return bracketed(text, at, depth, table, count, Bracket::Round);
-    }
-    let kind = axis(byte);
-    if kind == 0 {
-        return Parsed::Broken(at);
-    }
-    leaf(table, count, kind, 0, at + 1)
 }
 
 // What stands in a bracket that opens at `at`, and the byte that closes it: through here paths and filters call each other.
@@ -143,11 +126,11 @@ fn bracketed(
     ensures { Follows (brackets bracket) depth text.now at table.old count result table.new }
 {
     if depth >= OPEN_BRACKETS {
-        return Parsed::Deep(at);
+        return Err(Stopped::Deep(at));
     }
     let inner = match bracket {
         Bracket::Round => path(text, at + 1, depth + 1, table, count),
-        _ => filter(text, at + 1, depth + 1, table, count),
+        Bracket::Square | Bracket::Curly => filter(text, at + 1, depth + 1, table, count),
     };
     closed(text, inner, closing(bracket))
 }
@@ -158,11 +141,10 @@ fn term(text: &[u8], at: usize, depth: usize, table: &mut [u8], count: usize) ->
     requires { RoomAhead text.now at table.old count }
     ensures { Follows terms depth text.now at table.old count result table.new }
 {
-    let mut next = past_nots(text, at);
+    let next = past_nots(text, at);
     let mut answer = plain(text, next, depth, table, count);
-    while at < next {
-        answer = behind(table, answer, NOT);
-        next -= 1;
+    for _ in at..next {
+        answer = behind(table, answer, Kind::Not);
     }
     answer
 }
@@ -173,15 +155,14 @@ fn plain(text: &[u8], at: usize, depth: usize, table: &mut [u8], count: usize) -
     requires { RoomAhead text.now at table.old count × (get_or text.now at 0 ≡ 33 → ⊥) }
     ensures { Follows terms depth text.now at table.old count result table.new }
 {
-    let byte = byte_at(text, at);
-    match byte {
-        b't' => leaf(table, count, ALWAYS, 0, at + 1),
-        b'f' => leaf(table, count, NEVER, 0, at + 1),
+    match byte_at(text, at) {
+        b't' => leaf(table, count, Kind::Always, 0, at + 1),
+        b'f' => leaf(table, count, Kind::Never, 0, at + 1),
         b'#' => labelled(text, at + 1, table, count),
         b'{' => bracketed(text, at, depth, table, count, Bracket::Curly),
         _ => {
             let inner = path(text, at, depth, table, count);
-            behind(table, inner, LEADS)
+            behind(table, inner, Kind::Leads)
         }
     }
 }

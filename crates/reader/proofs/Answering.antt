@@ -2,17 +2,14 @@
 use Prim.Native.Nat.{ℕ, ◌*◌, ◌≤◌, ◌<◌, zero-le}
 use native.Mathlib.Omega.{arith}
 use mathlib.Core.Path.{◌≡◌, refl, sym, ap, ◌∙◌, subst₂}
-use mathlib.Core.List.{[], ◌∷◌, ◌++◌}
+use mathlib.Core.List.{◌++◌}
 use lib.ListN.{length, take, drop}
 use lib.Seq.{take-length}
-use denote.Enum.Declared.{tag_of}
-use types.Run.{OneOf}
-use Rattle.std.specs.Prelude.{Result, Ok, Err}
+use Rattle.std.specs.Prelude.{Some, Result, Ok, Err}
 use Rattle.reply.specs.declared.Refusal.{Refusal}
-use Rattle.reply.specs.Reply.{Said, number, count, refused, said}
+use Rattle.reply.specs.Reply.{Said, count, refused, said}
 use Rattle.reply.specs.Bytes.{Bytes}
 use Rattle.reply.specs.Outcome.{done, short, turned_away}
-use Rattle.reply.specs.contracts.Reply as the_reply
 use Rattle.reply.proofs.Checking.{right_counted, faulted}
 use Rattle.query.specs.Syntax.{Path}
 use Rattle.query.specs.Table.{entry_bytes}
@@ -25,9 +22,9 @@ use Rattle.text.specs.Promise.{TextLength, OneTooMany, Faultless, TextFault, mis
 use Rattle.derivation.proofs.Back.{table_back}
 use Rattle.derivation.proofs.Mistakes.{PlainBelow, breaks_first, deep_first, star_first, whole_faultless}
 use Rattle.derivation.proofs.Accepted.{fits_query, query_fits}
-use Rattle.tokens.specs.declared.answer.Parsed.{Parsed}
-use Rattle.tokens.specs.declared.answer.Parsed.TheVariants.{Got, Broken, Deep}
-use Rattle.tokens.specs.Reading.{place_of}
+use Rattle.tokens.specs.declared.answer.Read.{Read}
+use Rattle.tokens.specs.declared.answer.Stopped.TheVariants.{Broken, Deep}
+use Rattle.tokens.specs.Reading.{Answer, place_of}
 use Rattle.reader.specs.Reader.{Parses, parses, breaks_off, too_many_open, FirstSlip, WrittenOut}
 use Rattle.reader.proofs.Parsing.{reached_clear}
 
@@ -52,30 +49,28 @@ module _ {table : Bytes} (before : Bytes) where
       )
 
   -- a check that refuses says that it is no query
-  pub refused_out : (r : Result ℕ Refusal) {s : Said} → OneOf (1 ∷ []) (tag_of the_reply.the_type r) → QueryChecked curators table (said r)
-      → s ≡ refused 16 0 → WrittenOut table before s before
-  refused_out (Ok c) no_such x e = absurd (omega arith)
-  refused_out (Err f) u x e =
-      let no_query : ¬ Query curators table = query_wrong curators table (number f.reason) f.place (faulted x) in
+  pub refused_out : {n p : ℕ} {s : Said} → QueryChecked curators table (refused n p) → s ≡ refused 16 0 → WrittenOut table before s before
+  refused_out x e =
+      let no_query : ¬ Query curators table = query_wrong curators table _ _ (faulted x) in
       rw e (turned_away zero-le (refl, refl, no_query))
 
 -- What the readers say of a text that they read to its end.
-module _ {text : Bytes} {p : Parsed} {at n : ℕ} {table : Bytes} (e : p ≡ Got at n) (x : Parses text p table) where
-  pub record Read : Type 0 where
+module _ {text : Bytes} {r : Read} {table : Bytes} (x : Parses text (Ok r) table) where
+  pub record Whole : Type 0 where
     pub path : Path
     pub text_of : PathText text path
     pub shallow : (k : ℕ) → ¬ OneTooMany text k
-    pub end : at ≡ length text
-    pub count : n ≡ length (table_of path)
-    pub long : 6 * n ≤ length table
-    pub few : n ≤ 2048
-    pub front : take (6 * n) table ≡ entry_bytes (table_of path)
+    pub end : r.at ≡ length text
+    pub count : r.count ≡ length (table_of path)
+    pub long : 6 * r.count ≤ length table
+    pub few : r.count ≤ 2048
+    pub front : take (6 * r.count) table ≡ entry_bytes (table_of path)
 
   -- and they say it
-  pub got_read : Read
-  got_read = go (rw e at x)
+  pub whole : Whole
+  whole = go x
     where
-      go : Parses text (Got at n) table → Read
+      go : Parses text (Ok r) table → Whole
       go (parses {p = path} y s e c l m f) =
           record { path = path; text_of = y; shallow = s; end = e; count = c; long = l; few = m; front = f }
 
@@ -93,37 +88,31 @@ module _ (text before : Bytes) where
 
     module _ (right : TextLength text) where
       -- a star right behind a star, before the place where reading comes to
-      pub slip_told : {p : Parsed} {i : ℕ} {after : Bytes} {s : Said} → Parses text p after → FirstSlip text (place_of p) i → i < place_of p
+      pub slip_told : {p : Answer} {i : ℕ} {after : Bytes} {s : Said} → Parses text p after → FirstSlip text (place_of p) (Some i)
           → s ≡ refused 19 i → TextRead text before s before
-      slip_told x slip l = fault_told (mistaken right (star_first (reached_clear x).0 l (slip.is l) slip.none))
+      slip_told x (l, is, none) = fault_told (mistaken right (star_first (reached_clear x).0 l is none))
 
       -- a byte that the grammar does not take
-      pub broken_told : {p : Parsed} {i : ℕ} {after : Bytes} {s : Said} → p ≡ Broken i → Parses text p after → PlainBelow text (place_of p)
+      pub broken_told : {i : ℕ} {after : Bytes} {s : Said} → Parses text (Err (Broken i)) after → PlainBelow text i
           → s ≡ refused 14 i → TextRead text before s before
-      broken_told {i = i} {after = after} e x plain = fault_told (go (rw e at x) (rw e at plain))
-        where
-          go : Parses text (Broken i) after → PlainBelow text i → TextFault text 14 i
-          go (breaks_off w b) plain = mistaken right (breaks_first b plain)
+      broken_told (breaks_off w b) plain = fault_told (mistaken right (breaks_first b plain))
 
       -- a bracket too many
-      pub deep_told : {p : Parsed} {i : ℕ} {after : Bytes} {s : Said} → p ≡ Deep i → Parses text p after → PlainBelow text (place_of p)
+      pub deep_told : {i : ℕ} {after : Bytes} {s : Said} → Parses text (Err (Deep i)) after → PlainBelow text i
           → s ≡ refused 15 i → TextRead text before s before
-      deep_told {i = i} {after = after} e x plain = fault_told (go (rw e at x) (rw e at plain))
-        where
-          go : Parses text (Deep i) after → PlainBelow text i → TextFault text 15 i
-          go (too_many_open w d) plain = mistaken right (deep_first d plain)
+      deep_told (too_many_open w d) plain = fault_told (mistaken right (deep_first d plain))
 
     -- the text is read, or its table is too large
-    pub text_told : {p : Parsed} {at n : ℕ} {table after : Bytes} {s : Said} → TextLength text → p ≡ Got at n → Parses text p table
-        → PlainBelow text (place_of p) → WrittenOut (take (6 * n) table) before s after → TextRead text before s after
+    pub text_told : {r : Read} {table after : Bytes} {s : Said} → TextLength text → Parses text (Ok r) table → PlainBelow text r.at
+        → WrittenOut (take (6 * r.count) table) before s after → TextRead text before s after
     unfolding TextRead
-    text_told {at = at} {n = n} {after = after} {s = s} right e x plain a = go (rw found.front at a)
+    text_told right x plain a = go (rw found.front at a)
       where
-        found : Read e x
-        found = got_read e x
+        found : Whole x
+        found = whole x
 
         faultless : Faultless text
-        faultless = whole_faultless found.text_of found.shallow (rw (e, found.end) at plain)
+        faultless = whole_faultless found.text_of found.shallow (rw found.end at plain)
 
         short_table : length (table_of found.path) ≤ 65536
         short_table = omega (arith, found.few, found.count)

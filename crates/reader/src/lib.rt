@@ -15,7 +15,7 @@ use parser::path;
 use reply::{CURATOR_ENTRIES, CURATOR_HEIGHT, Reason, Reply, TABLE_ROOM, TEXT_BYTES, refuse};
 use stars::slip_before;
 use tables::check_query;
-use tokens::Parsed;
+use tokens::{Parsed, Stopped};
 
 // Two entries of six bytes for each byte of a text: no text writes more.
 const TABLE: usize = 12 * TEXT_BYTES;
@@ -30,14 +30,11 @@ fn read_whole(text: &[u8], table: &mut [u8]) -> Parsed
     requires { TextLength text.now × (12 * length text.now ≤ length table.old) }
     ensures { Parses text.now result table.new }
 {
-    let parsed = path(text, 0, 0, table, 0);
-    let Parsed::Got { at, count: _ } = parsed else {
-        return parsed;
-    };
-    if at < text.len() {
-        return Parsed::Broken(at);
+    let read = path(text, 0, 0, table, 0)?;
+    if read.at < text.len() {
+        return Err(Stopped::Broken(read.at));
     }
-    parsed
+    Ok(read)
 }
 
 // The table of a text in the grammar, written out if it is within the curator's limits.
@@ -57,9 +54,8 @@ fn reached(parsed: Parsed) -> usize
     ensures { result ≡ place_of parsed }
 {
     match parsed {
-        Parsed::Got { at, count: _ } => at,
-        Parsed::Broken(at) => at,
-        Parsed::Deep(at) => at,
+        Ok(read) => read.at,
+        Err(Stopped::Broken(at) | Stopped::Deep(at)) => at,
     }
 }
 
@@ -71,17 +67,13 @@ fn read_by(text: &[u8], table: &mut [u8], room: &mut [u8]) -> Reply
 {
     let parsed = read_whole(text, table);
     let end = reached(parsed);
-    let slip = slip_before(text, end);
-    if slip < end {
+    if let Some(slip) = slip_before(text, end) {
         return refuse(Reason::TwoStars, slip);
     }
     match parsed {
-        Parsed::Broken(at) => refuse(Reason::NotInGrammar, at),
-        Parsed::Deep(at) => refuse(Reason::TooManyOpen, at),
-        Parsed::Got { at: _, count } => {
-            let size = 6 * count;
-            write_out(&table[..size], room)
-        }
+        Ok(read) => write_out(&table[..6 * read.count], room),
+        Err(Stopped::Broken(at)) => refuse(Reason::NotInGrammar, at),
+        Err(Stopped::Deep(at)) => refuse(Reason::TooManyOpen, at),
     }
 }
 
@@ -92,16 +84,9 @@ pub fn read_text(text: &[u8], room: &mut [u8]) -> Reply
     if room.len() < TABLE_ROOM {
         return refuse(Reason::ShortRoom, 0);
     }
-    if text.len() == 0 {
-        return refuse(Reason::TextLength, 0);
+    match text.len() {
+        1..=SHORT_BYTES => read_by(text, &mut [0u8; SHORT_TABLE], room),
+        1..=TEXT_BYTES => read_by(text, &mut [0u8; TABLE], room),
+        _ => refuse(Reason::TextLength, 0),
     }
-    if text.len() > TEXT_BYTES {
-        return refuse(Reason::TextLength, 0);
-    }
-    if text.len() <= SHORT_BYTES {
-        let mut short = [0u8; SHORT_TABLE];
-        return read_by(text, &mut short, room);
-    }
-    let mut table = [0u8; TABLE];
-    read_by(text, &mut table, room)
 }

@@ -24,7 +24,7 @@ in_turn_as other n p (first fault) = first fault
 in_turn_as other n p (behind right fault) = behind right (other n p fault)
 
 -- what a `?` returns is the refusal that it met
-pub met : {up : Result ℕ Refusal} {x : Refusal} → IsErrAnd up (λ y. y ≡ x) → up ≡ Err x
+pub met : {A E : Type 0} {up : Result A E} {x : E} → IsErrAnd up (λ y. y ≡ x) → up ≡ Err x
 met {up = up} h = let p = err_from_is_err_and up h in p.1 ∙ ap Err p.2
 
 module _ {Right : Type 0} {Fault : ℕ → ℕ → Type 0} {size : ℕ} where

@@ -8,14 +8,14 @@ use Rattle.reply.specs.Bytes.{Bytes}
 use Rattle.derivation.specs.declared.Chain.{Chain}
 use Rattle.derivation.proofs.Parts.{Joined, joining}
 use Rattle.derivation.proofs.Rules as rules
-use Rattle.tokens.specs.declared.answer.Parsed.{Parsed}
-use Rattle.tokens.specs.declared.answer.Parsed.TheVariants.{Got}
+use Rattle.tokens.specs.declared.answer.Read.{Read}
+use Rattle.std.specs.Prelude.{Ok, Err}
+use Rattle.tokens.specs.declared.answer.Stopped.{Stopped}
 use Rattle.tokens.specs.declared.kind.Sort.{Sort}
 use Rattle.tokens.specs.declared.kind.Sort.TheVariants as sort
-use Rattle.tokens.specs.Reading.{Entered, Follows, RoomAhead, joined_entries, joined_spare, chains, links}
+use Rattle.tokens.specs.Reading.{Entered, Answer, Follows, RoomAhead, joined_entries, joined_spare, chains, links}
 use Rattle.tokens.specs.Reading.{outer_chain, inner_chain, Joins, alone, both}
 use Rattle.tokens.proofs.Places.{inside}
-use Rattle.tokens.proofs.Answers.{Failed}
 use Rattle.tokens.proofs.Following as following
 use Rattle.tokens.proofs.Following.{ready_after}
 use Rattle.tokens.proofs.Chains.{joint_seen, Chained, started, not_started, turned, not_turned}
@@ -28,27 +28,27 @@ pub data Begun (c : Chain) (k : ℕ) (text : Bytes) (at : ℕ) (before : Bytes) 
 
 module _ (c : Chain) {k : ℕ} {text : Bytes} {at : ℕ} {before : Bytes} {n : ℕ} where
   -- the link is read, and joined where it is not the first
-  pub linked : {next m : ℕ} {mid : Bytes} {p : Parsed} {to l w : ℕ} {after last : Bytes} {d : Chain}
-      → Begun c k text at before n next m mid → p ≡ Got to l → Follows (links c) k text next mid m p after → d ≡ c
-      → Joins d after n m l w last
-      → Chained c k text at before n to w last
-  linked {m = m} {l = l} {w = w} {after = after} {last = last} b e f same j =
-      go b e f (rw same at j)
+  pub linked : {next m : ℕ} {mid : Bytes} {r : Read} {w : ℕ} {after last : Bytes} {d : Chain}
+      → Begun c k text at before n next m mid → Follows (links c) k text next mid m (Ok r) after → d ≡ c
+      → Joins d after n m r.count w last
+      → Chained c k text at before n r.at w last
+  linked b f same j =
+      go b f (rw same at j)
     where
-      go : {next m : ℕ} {mid : Bytes} {p : Parsed} {to l w : ℕ} {after last : Bytes}
-          → Begun c k text at before n next m mid → p ≡ Got to l → Follows (links c) k text next mid m p after → Joins c after n m l w last
-          → Chained c k text at before n to w last
-      go first e f (alone a) = started c e f
-      go first e f (both b added) = absurd (omega arith)
-      go (further g i) e f (alone a) = let s = g.stands.some in absurd (omega arith)
-      go (further g i) e f (both b added) = turned c g i e f added
+      go : {next m : ℕ} {mid : Bytes} {r : Read} {w : ℕ} {after last : Bytes}
+          → Begun c k text at before n next m mid → Follows (links c) k text next mid m (Ok r) after
+          → Joins c after n m r.count w last → Chained c k text at before n r.at w last
+      go first f (alone a) = started c f
+      go first f (both b added) = absurd (omega arith)
+      go (further g i) f (alone a) = let s = g.stands.some in absurd (omega arith)
+      go (further g i) f (both b added) = turned c g i f added
 
   -- the link is not read, so the chain is not
-  pub not_linked : {next m : ℕ} {mid : Bytes} {p : Parsed} {after : Bytes}
-      → Begun c k text at before n next m mid → Failed p → Follows (links c) k text next mid m p after
-      → Follows (chains c) k text at before n p after
-  not_linked first d f = not_started c d f
-  not_linked (further g j) d f = not_turned c g j d f
+  pub not_linked : {next m : ℕ} {mid : Bytes} {z : Stopped} {after : Bytes}
+      → Begun c k text at before n next m mid → Follows (links c) k text next mid m (Err z) after
+      → Follows (chains c) k text at before n (Err z) after
+  not_linked first f = not_started c f
+  not_linked (further g j) f = not_turned c g j f
 
   -- the place does not go back
   pub begun_on : {next m : ℕ} {mid : Bytes} → Begun c k text at before n next m mid → at ≤ next
@@ -77,7 +77,7 @@ module _ (c : Chain) {k : ℕ} {text : Bytes} {at : ℕ} {before : Bytes} {n : �
       omega arith
 
 -- the links of the outer chain are the inner chain
-pub as_link : (s : Sort) {k : ℕ} {text : Bytes} {at : ℕ} {before : Bytes} {n : ℕ} {p : Parsed} {after : Bytes}
+pub as_link : (s : Sort) {k : ℕ} {text : Bytes} {at : ℕ} {before : Bytes} {n : ℕ} {p : Answer} {after : Bytes}
     → Follows (chains (inner_chain s)) k text at before n p after → Follows (links (outer_chain s)) k text at before n p after
 as_link sort.Path {at = at} f =
     following.turned (λ x. x) (record { goes = rules.sequence; halts = rules.sequence }) (le_refl at) (λ x. refl) (omega arith) f

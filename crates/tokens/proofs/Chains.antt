@@ -11,13 +11,13 @@ use Rattle.derivation.specs.declared.Chain.{Chain}
 use Rattle.derivation.specs.declared.Chain.TheVariants as chain
 use Rattle.derivation.proofs.Parts.{Joined, join, joining}
 use Rattle.derivation.proofs.Rules.{Result, got, stopped, NotAt, GoesOn, starts, start_stops, joined, joined_stops, ends}
-use Rattle.tokens.specs.declared.answer.Parsed.{Parsed}
-use Rattle.tokens.specs.declared.answer.Parsed.TheVariants.{Got}
+use Rattle.tokens.specs.declared.answer.Read.{Read}
+use Rattle.std.specs.Prelude.{Ok, Err}
+use Rattle.tokens.specs.declared.answer.Stopped.{Stopped}
 use Rattle.tokens.specs.Reading.{Line, one, Added, Entered, Follows, follows, stops, most_open, joined_entries, joined_kind, chains}
-use Rattle.tokens.specs.Reading.{links}
+use Rattle.tokens.specs.Reading.{links, why, stop_place}
 use Rattle.tokens.proofs.Entries.{added_on}
 use Rattle.tokens.proofs.Places.{here, not_at, none_of, nor}
-use Rattle.tokens.proofs.Answers.{Failed, not_failed}
 use Rattle.tokens.proofs.Following.{got_stands}
 
 -- A thing is read from `at` up to `next`, and what follows may add to it.
@@ -56,19 +56,18 @@ Chained c k = Going (chains c) (GoesOn most_open c k) k
 
 module _ (c : Chain) {k : ℕ} {text : Bytes} {at : ℕ} {before : Bytes} {n : ℕ} where
   -- the first link is read
-  pub started : {p : Parsed} {to m : ℕ} {after : Bytes} → p ≡ Got to m → Follows (links c) k text at before n p after
-      → Chained c k text at before n to m after
-  started e f = let (x, rd, st) = got_stands e f in record { thing = x; goes_on = λ r g. starts rd g; stands = st }
+  pub started : {r : Read} {after : Bytes} → Follows (links c) k text at before n (Ok r) after
+      → Chained c k text at before n r.at r.count after
+  started f = let (x, rd, st) = got_stands f in record { thing = x; goes_on = λ r g. starts rd g; stands = st }
 
   -- the first link is not read
-  pub not_started : {p : Parsed} {after : Bytes} → Failed p → Follows (links c) k text at before n p after
-      → Follows (chains c) k text at before n p after
-  not_started f (follows {to = to} {m = m} rd st) = absurd (not_failed to m f)
-  not_started f (stops st rd w) = stops st (start_stops rd) w
+  pub not_started : {z : Stopped} {after : Bytes} → Follows (links c) k text at before n (Err z) after
+      → Follows (chains c) k text at before n (Err z) after
+  not_started (stops rd w) = stops (start_stops rd) w
 
   module _ {next m : ℕ} {mid : Bytes} (going : Chained c k text at before n next m mid) where
     -- no joining byte: the chain is at its end
-    pub ended : (get_or text next 0 ≡ joining c → ⊥) → Follows (chains c) k text at before n (Got next m) mid
+    pub ended : (get_or text next 0 ≡ joining c → ⊥) → Follows (chains c) k text at before n (Ok (record { at = next; count = m })) mid
     ended no_byte =
         let off : NotAt (joining c ∷ []) (drop next text) = not_at (joining c ∷ []) text next (nor no_byte none_of) in
         follows (going.goes_on (got going.thing (drop next text)) (ends off)) going.stands
@@ -79,16 +78,16 @@ module _ (c : Chain) {k : ℕ} {text : Bytes} {at : ℕ} {before : Bytes} {n : �
       joint = here text next (joining c) e (joint_seen c)
 
       -- one more link is not read
-      pub not_turned : {p : Parsed} {after : Bytes} → Failed p → Follows (links c) k text (next + 1) mid m p after
-          → Follows (chains c) k text at before n p after
-      not_turned f (follows {to = to} {m = l} rd st) = absurd (not_failed to l f)
-      not_turned f (stops {s = s} {i = i} st rd w) = stops st (going.goes_on (stopped s (drop i text)) (rw joint (joined_stops refl rd))) w
+      pub not_turned : {z : Stopped} {after : Bytes} → Follows (links c) k text (next + 1) mid m (Err z) after
+          → Follows (chains c) k text at before n (Err z) after
+      not_turned {z = z} (stops rd w) = stops (going.goes_on (stopped (why z) (drop (stop_place z) text)) (rw joint (joined_stops refl rd))) w
 
       -- one more link is read, and the two are joined
-      pub turned : {p : Parsed} {to l : ℕ} {after last : Bytes} → p ≡ Got to l → Follows (links c) k text (next + 1) mid m p after
-          → Added after l (one (joined_kind c) 0 (m - 1) (l - 1)) last → Chained c k text at before n to (l + 1) last
-      turned {l = l} {last = last} q w a =
-          let (y, rd, st) = got_stands q w in
+      pub turned : {r : Read} {after last : Bytes} → Follows (links c) k text (next + 1) mid m (Ok r) after
+          → Added after r.count (one (joined_kind c) 0 (m - 1) (r.count - 1)) last → Chained c k text at before n r.at (r.count + 1) last
+      turned {r = r} {last = last} w a =
+          let l : ℕ = r.count in
+          let (y, rd, st) = got_stands w in
           let x : Joined c = going.thing in
           let es : Entries = joined_entries c n x in
           let fs : Entries = joined_entries c m y in

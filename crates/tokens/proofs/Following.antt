@@ -1,59 +1,42 @@
 -- What follows where a reader's answer is used by another. Assumes nothing.
 use Prim.Native.Nat.{ℕ, ◌+◌, ◌-◌, ◌*◌, ◌≤◌, ◌<◌}
 use native.Mathlib.Omega.{arith}
-use mathlib.Core.Path.{◌≡◌, refl, sym, ap, ◌∙◌, subst}
+use mathlib.Core.Path.{◌≡◌, sym, ap, ◌∙◌, subst}
 use mathlib.Core.List.{◌++◌}
 use lib.ListN.{length, drop, length-append}
 use Rattle.reply.specs.Bytes.{Bytes}
 use Rattle.query.specs.Table.{Entries}
 use Rattle.derivation.proofs.Rules.{Stop, got, stopped}
-use Rattle.tokens.specs.declared.answer.Parsed.{Parsed}
-use Rattle.tokens.specs.declared.answer.Parsed.TheVariants.{Got}
-use Rattle.tokens.specs.Reading.{Line, one, Added, Entered, StopsAt, broken_at, deep_at, Follows, follows, stops, RoomAhead, place_of}
+use Rattle.tokens.specs.declared.answer.Read.{Read}
+use Rattle.std.specs.Prelude.{Ok}
+use Rattle.tokens.specs.Reading.{Line, one, Added, Entered, Answer, Follows, follows, stops, RoomAhead, place_of}
 use Rattle.tokens.specs.Reading.{RoomBehind, Behind, behind, passed_on}
 use Rattle.tokens.proofs.Entries.{added_on}
 
--- what was read is no stop
-pub no_stop : {to m i : ℕ} {s : Stop} → StopsAt (Got to m) s i → ⊥
-no_stop st = elim st [ ]
-
--- a stop at a place says that place
-stop_place : {p : Parsed} {s : Stop} {i : ℕ} → StopsAt p s i → place_of p ≡ i
-stop_place broken_at = refl
-stop_place deep_at = refl
-
--- a stop asks no room
-stop_room : {p : Parsed} {s : Stop} {i : ℕ} (t : Bytes) → StopsAt p s i → RoomBehind p t
-stop_room t broken_at = tt
-stop_room t deep_at = tt
-
--- something is read by the line from `at` up to `to`, and stands in the table
-abbrev pub Found : Line → ℕ → Bytes → ℕ → Bytes → ℕ → ℕ → ℕ → Bytes → Type 0
-Found line k text at before n to m after =
-    (x : line.Thing) × line.reads k (drop at text) (got x (drop to text)) × Entered line.written line.spare text at before n x to m after
+-- something is read by the line, and stands in the table
+abbrev pub Found : Line → ℕ → Bytes → ℕ → Bytes → ℕ → Read → Bytes → Type 0
+Found line k text at before n r after =
+    (x : line.Thing) × line.reads k (drop at text) (got x (drop r.at text))
+    × Entered line.written line.spare text at before n x r.at r.count after
 
 module _ {line : Line} {k : ℕ} {text : Bytes} {at : ℕ} {before after : Bytes} {n : ℕ} where
   -- an answer's place is in the text
-  pub place_in_text : {p : Parsed} → Follows line k text at before n p after → place_of p ≤ length text
+  pub place_in_text : {p : Answer} → Follows line k text at before n p after → place_of p ≤ length text
   place_in_text (follows rd st) = st.within
-  place_in_text (stops st rd w) = rw (stop_place st) w
+  place_in_text (stops rd w) = w
 
   -- what was read stands in the table
-  pub got_stands : {p : Parsed} {to m : ℕ} → p ≡ Got to m → Follows line k text at before n p after → Found line k text at before n to m after
-  got_stands {to = to} {m = m} e f = go (rw e at f)
-    where
-      go : Follows line k text at before n (Got to m) after → Found line k text at before n to m after
-      go (follows {x = x} rd st) = (x, rd, st)
-      go (stops no_such rd w) = absurd (no_stop no_such)
+  pub got_stands : {r : Read} → Follows line k text at before n (Ok r) after → Found line k text at before n r after
+  got_stands (follows {x = x} rd st) = (x, rd, st)
 
   -- one entry without operands, from `at` up to `to`
-  pub leaf_follows : {kind label to : ℕ} {p : Parsed} (x : line.Thing) → line.reads k (drop at text) (got x (drop to text))
+  pub leaf_follows : {kind label to : ℕ} {p : Answer} (x : line.Thing) → line.reads k (drop at text) (got x (drop to text))
       → line.written n x ≡ one kind label 0 0
-      → line.spare ≤ 1 → at < to → to ≤ length text → (p ≡ Got to (n + 1)) × Added before n (one kind label 0 0) after
+      → line.spare ≤ 1 → at < to → to ≤ length text → (p ≡ Ok (record { at = to; count = n + 1 })) × Added before n (one kind label 0 0) after
       → Follows line k text at before n p after
   leaf_follows {to = to} x rd w s l i e =
       let len : length (line.written n x) ≡ 1 = ap length w in
-      subst (λ (q : Parsed). Follows line k text at before n q after) (sym e.0)
+      subst (λ (q : Answer). Follows line k text at before n q after) (sym e.0)
       (follows rd (record {
         further = l;
         some = omega arith;
@@ -64,7 +47,7 @@ module _ {line : Line} {k : ℕ} {text : Bytes} {at : ℕ} {before after : Bytes
       }))
 
   -- behind what was read from `from`, at or behind `at`, there is room for one more entry
-  pub room_after : {from : ℕ} {p : Parsed} → Follows line k text from before n p after → RoomAhead text at before n → at ≤ from
+  pub room_after : {from : ℕ} {p : Answer} → Follows line k text from before n p after → RoomAhead text at before n → at ≤ from
       → 1 ≤ line.spare + 2 * (from - at)
       → length after ≡ length before → RoomBehind p after
   room_after (follows rd st) r l s e =
@@ -74,7 +57,7 @@ module _ {line : Line} {k : ℕ} {text : Bytes} {at : ℕ} {before after : Bytes
       let d = st.some in
       let f = r.room in
       (omega arith, omega arith)
-  room_after (stops st rd w) r l s e = stop_room after st
+  room_after (stops rd w) r l s e = tt
 
 -- What one line reads as x in the text b, another line reads as `wrap x` in the text a.
 pub record Turns (line outer : Line) (wrap : line.Thing → outer.Thing) (k j : ℕ) (b a : Bytes) : Type 0 where
@@ -85,15 +68,15 @@ module _ {line outer : Line} (wrap : line.Thing → outer.Thing) {k j : ℕ} {te
     (turns : Turns line outer wrap k j (drop from text) (drop at text)) (l : at ≤ from)
     {n : ℕ} {before : Bytes} where
   -- the other line writes the same
-  pub turned : {mid : Bytes} {p : Parsed} → ((x : line.Thing) → outer.written n (wrap x) ≡ line.written n x)
+  pub turned : {mid : Bytes} {p : Answer} → ((x : line.Thing) → outer.written n (wrap x) ≡ line.written n x)
       → outer.spare ≤ line.spare + 2 * (from - at)
       → Follows line k text from before n p mid → Follows outer j text at before n p mid
-  turned {mid = mid} writes s (follows {x = x} {to = to} {m = m} rd st) =
+  turned {mid = mid} writes s (follows {x = x} {r = r} rd st) =
       let a = st.further in
       let b = st.count in
       let c = st.few in
       let len : length (outer.written n (wrap x)) ≡ length (line.written n x) = ap length (writes x) in
-      follows {x = wrap x} {to = to} {m = m} {after = mid} (turns.goes rd) (record {
+      follows {x = wrap x} {r = r} {after = mid} (turns.goes rd) (record {
         further = omega arith;
         some = st.some;
         within = st.within;
@@ -101,23 +84,23 @@ module _ {line outer : Line} (wrap : line.Thing → outer.Thing) {k j : ℕ} {te
         few = omega arith;
         table = rw (writes x) st.table;
       })
-  turned writes s (stops st rd w) = stops st (turns.halts rd) w
+  turned writes s (stops rd w) = stops (turns.halts rd) w
 
   -- the other line writes an entry of a kind behind it
-  pub wrapped : {kind : ℕ} {mid after : Bytes} {p r : Parsed}
+  pub wrapped : {kind : ℕ} {mid after : Bytes} {p r : Answer}
       → ((x : line.Thing) → outer.written n (wrap x) ≡ line.written n x ++ one kind 0 (n + length (line.written n x) - 1) 0)
       → outer.spare + 1 ≤ line.spare + 2 * (from - at)
       → Follows line k text from before n p mid → Behind kind mid p r after → Follows outer j text at before n r after
-  wrapped {kind = kind} {mid = mid} {after = after} writes s (follows {x = x} {to = to} {m = m} rd st) (behind w) =
+  wrapped {kind = kind} {mid = mid} {after = after} writes s (follows {x = x} {r = r} rd st) (behind w) =
       let es : Entries = line.written n x in
       let a = st.further in
       let b = st.count in
       let c = st.few in
       let d = st.some in
       let own : Entries = one kind 0 (n + length es - 1) 0 in
-      let last : Added mid m own after = subst (λ (i : ℕ). Added mid m (one kind 0 (i - 1) 0) after) b w in
+      let last : Added mid r.count own after = subst (λ (i : ℕ). Added mid r.count (one kind 0 (i - 1) 0) after) b w in
       let len : length (outer.written n (wrap x)) ≡ length es + 1 = ap length (writes x) ∙ length-append es own in
-      follows {x = wrap x} {to = to} {m = m + 1} {after = after} (turns.goes rd) (record {
+      follows {x = wrap x} {r = record { at = r.at; count = r.count + 1 }} {after = after} (turns.goes rd) (record {
         further = omega arith;
         some = omega arith;
         within = st.within;
@@ -125,13 +108,7 @@ module _ {line outer : Line} (wrap : line.Thing → outer.Thing) {k j : ℕ} {te
         few = omega arith;
         table = rw (writes x) (added_on st.table b last);
       })
-  wrapped writes s (follows rd st) (passed_on no_such) = absurd (no_stop no_such)
-  wrapped writes s (stops no_such rd w) (behind b) = absurd (no_stop no_such)
-  wrapped writes s (stops st rd w) (passed_on again) = stops st (turns.halts rd) w
-
--- behind a byte of the text the reader is ready again
-pub ready_on : {text : Bytes} {at : ℕ} {table : Bytes} {n : ℕ} → RoomAhead text at table n → at < length text → RoomAhead text (at + 1) table n
-ready_on r l = let s = r.room in record { within = omega arith; room = omega arith }
+  wrapped writes s (stops rd w) passed_on = stops (turns.halts rd) w
 
 -- where a thing stands, the reader is ready behind one more byte
 pub ready_after : {A : Type 0} {written : ℕ → A → Entries} {spare : ℕ} {text : Bytes} {at : ℕ} {before : Bytes} {n : ℕ} {x : A}

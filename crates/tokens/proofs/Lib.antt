@@ -1,5 +1,4 @@
 pub mod Stores
-pub mod Answers
 pub mod Places
 pub mod Labels
 pub mod Entries
@@ -10,4 +9,3 @@ pub mod Stars
 pub mod Enclosed
 pub mod Atoms
 pub mod Terms
-pub mod Chosen

@@ -9,30 +9,29 @@ use Rattle.query.specs.Syntax.{Path, star}
 use Rattle.query.specs.Table.{Entries}
 use Rattle.text.specs.Written.{path_entries}
 use Rattle.derivation.proofs.Rules.{got, NotAt, StarsRead, one_more, no_more, item, item_stops}
-use Rattle.tokens.specs.declared.answer.Parsed.{Parsed}
-use Rattle.tokens.specs.declared.answer.Parsed.TheVariants.{Got}
+use Rattle.tokens.specs.declared.answer.Read.{Read}
+use Rattle.std.specs.Prelude.{Ok, Err}
+use Rattle.tokens.specs.declared.answer.Stopped.{Stopped}
 use Rattle.tokens.specs.Reading.{one, Added, Follows, follows, stops, items, atoms}
 use Rattle.tokens.proofs.Entries.{added_on}
 use Rattle.tokens.proofs.Places.{here, inside, not_at, none_of, nor}
-use Rattle.tokens.proofs.Answers.{Failed, not_failed}
 use Rattle.tokens.proofs.Following.{got_stands}
 use Rattle.tokens.proofs.Chains.{Going}
 
 module _ {k : ℕ} {text : Bytes} {at : ℕ} {before : Bytes} {n : ℕ} where
   -- the atom is read
-  pub atom_read : {p : Parsed} {to m : ℕ} {after : Bytes} → p ≡ Got to m → Follows atoms k text at before n p after
-      → Going items StarsRead k text at before n to m after
-  atom_read e f = let (x, rd, st) = got_stands e f in record { thing = x; goes_on = λ r s. item rd s; stands = st }
+  pub atom_read : {r : Read} {after : Bytes} → Follows atoms k text at before n (Ok r) after
+      → Going items StarsRead k text at before n r.at r.count after
+  atom_read f = let (x, rd, st) = got_stands f in record { thing = x; goes_on = λ r s. item rd s; stands = st }
 
   -- the atom is not read
-  pub atom_not_read : {p : Parsed} {after : Bytes} → Failed p → Follows atoms k text at before n p after
-      → Follows items k text at before n p after
-  atom_not_read f (follows {to = to} {m = m} rd st) = absurd (not_failed to m f)
-  atom_not_read f (stops st rd w) = stops st (item_stops rd) w
+  pub atom_not_read : {z : Stopped} {after : Bytes} → Follows atoms k text at before n (Err z) after
+      → Follows items k text at before n (Err z) after
+  atom_not_read (stops rd w) = stops (item_stops rd) w
 
   module _ {next m : ℕ} {mid : Bytes} (going : Going items StarsRead k text at before n next m mid) where
     -- no star: the item is at its end
-    pub no_star : (get_or text next 0 ≡ 42 → ⊥) → Follows items k text at before n (Got next m) mid
+    pub no_star : (get_or text next 0 ≡ 42 → ⊥) → Follows items k text at before n (Ok (record { at = next; count = m })) mid
     no_star no_byte =
         let off : NotAt (42 ∷ []) (drop next text) = not_at (42 ∷ []) text next (nor no_byte none_of) in
         follows (going.goes_on (got going.thing (drop next text)) (no_more off)) going.stands

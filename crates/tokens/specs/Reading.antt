@@ -1,18 +1,22 @@
 -- What the readers of the parts of a text come to, in terms of the rules of reading: what is read, up to where, and what is written for it.
 -- Nothing here has to be believed: call 2's promise is stated without it, and proved from it.
-use Rattle.std.specs.Prelude.{ℕ, ◌+◌, ◌-◌, ◌*◌, ◌≤◌, ◌<◌, ◌≡◌, length, get_or, take, drop}
+use Rattle.std.specs.Prelude as std
+use Rattle.std.specs.Prelude.{ℕ, ◌+◌, ◌-◌, ◌*◌, ◌≤◌, ◌<◌, ◌≡◌, length, get_or, take, drop, Option, Some, None, Ok, Err}
 use mathlib.Core.List.{[], ◌∷◌, ◌++◌, Memᴰ}
 use Rattle.reply.specs.Bytes.{Bytes}
 use Rattle.query.specs.Table.{Entries, entry_bytes}
 use Rattle.tables.specs.Laid.{fields}
+use Rattle.tables.specs.declared.kinds.Kind.{Kind}
+use Rattle.tables.specs.declared.kinds.Kind.TheVariants as kind
 use Rattle.text.specs.Written.{path_entries, filter_entries}
 use Rattle.derivation.specs.declared.Chain.{Chain}
 use Rattle.derivation.specs.declared.Chain.TheVariants as chain
 use Rattle.derivation.specs.declared.Bracket.{Bracket}
 use Rattle.derivation.proofs.Parts.{Joined, inside}
 use Rattle.derivation.proofs.Rules.{Stop, broken, deep, Result, got, stopped, LabelReads, ChainReads, LinkReads, AtomReads, BracketReads}
-use Rattle.tokens.specs.declared.answer.Parsed.{Parsed}
-use Rattle.tokens.specs.declared.answer.Parsed.TheVariants.{Got, Broken, Deep}
+use Rattle.tokens.specs.declared.answer.Read.{Read}
+use Rattle.tokens.specs.declared.answer.Stopped.{Stopped}
+use Rattle.tokens.specs.declared.answer.Stopped.TheVariants.{Broken, Deep}
 use Rattle.tokens.specs.declared.kind.Sort.{Sort}
 use Rattle.tokens.specs.declared.kind.Sort.TheVariants as sort
 
@@ -46,18 +50,26 @@ pub record Entered {A : Type 0} (written : ℕ → A → Entries) (spare : ℕ) 
   pub few : m + spare ≤ n + 2 * (to - at)
   pub table : Added before n (written n x) after
 
--- The answer is a stop at the place i.
-pub data StopsAt : Parsed → Stop → ℕ → Type 0 where
-  broken_at : {i : ℕ} → StopsAt (Broken i) broken i
-  deep_at : {i : ℕ} → StopsAt (Deep i) deep i
+-- What a reader answers: what was read, or a stop.
+abbrev pub Answer : Type 0
+Answer = std.Result Read Stopped
+
+-- why reading stops
+abbrev pub why : Stopped → Stop
+why (Broken i) = broken
+why (Deep i) = deep
+
+-- and where
+abbrev pub stop_place : Stopped → ℕ
+stop_place (Broken i) = i
+stop_place (Deep i) = i
 
 -- What reading from `at` with k brackets open comes to, where the table has n entries.
-pub data Follows (line : Line) (k : ℕ) (text : Bytes) (at : ℕ) (before : Bytes) (n : ℕ) : Parsed → Bytes → Type 0 where
-  follows : {x : line.Thing} {to m : ℕ} {after : Bytes} → line.reads k (drop at text) (got x (drop to text))
-      → Entered line.written line.spare text at before n x to m after → Follows line k text at before n (Got to m) after
-  stops : {p : Parsed} {s : Stop} {i : ℕ} {after : Bytes} → StopsAt p s i → line.reads k (drop at text) (stopped s (drop i text))
-      → i ≤ length text
-      → Follows line k text at before n p after
+pub data Follows (line : Line) (k : ℕ) (text : Bytes) (at : ℕ) (before : Bytes) (n : ℕ) : Answer → Bytes → Type 0 where
+  follows : {x : line.Thing} {r : Read} {after : Bytes} → line.reads k (drop at text) (got x (drop r.at text))
+      → Entered line.written line.spare text at before n x r.at r.count after → Follows line k text at before n (Ok r) after
+  stops : {z : Stopped} {after : Bytes} → line.reads k (drop at text) (stopped (why z) (drop (stop_place z) text))
+      → stop_place z ≤ length text → Follows line k text at before n (Err z) after
 
 -- The place is in the text, and the table has room for what can follow: two entries for each byte.
 pub record RoomAhead (text : Bytes) (at : ℕ) (table : Bytes) (n : ℕ) : Type 0 where
@@ -143,33 +155,32 @@ abbrev pub brackets : Bracket → Line
 brackets k = as_line (BracketReads most_open k) (joined_entries (inside k)) (joined_spare (inside k) + 4)
 
 -- The next place, or the place of the stop.
-abbrev pub place_of : Parsed → ℕ
-place_of (Got at n) = at
-place_of (Broken i) = i
-place_of (Deep i) = i
+abbrev pub place_of : Answer → ℕ
+place_of (Ok r) = r.at
+place_of (Err z) = stop_place z
 
--- What was read ends with the closing byte; a stop is passed on.
-pub data Closed (text : Bytes) (close : ℕ) : Parsed → Parsed → Type 0 where
-  closed_by : {at n : ℕ} → get_or text at 0 ≡ close → Closed text close (Got at n) (Got (at + 1) n)
-  open_at : {at n : ℕ} → (get_or text at 0 ≡ close → ⊥) → Closed text close (Got at n) (Broken at)
-  passed_by : {p : Parsed} {s : Stop} {i : ℕ} → StopsAt p s i → Closed text close p p
+-- What was read ends with the closing byte; a stop is passed up.
+pub data Closed (text : Bytes) (close : ℕ) : Answer → Answer → Type 0 where
+  closed_by : {r : Read} → get_or text r.at 0 ≡ close → Closed text close (Ok r) (Ok (record { at = r.at + 1; count = r.count }))
+  open_at : {r : Read} → (get_or text r.at 0 ≡ close → ⊥) → Closed text close (Ok r) (Err (Broken r.at))
+  passed_by : {z : Stopped} → Closed text close (Err z) (Err z)
 
--- The kind of an atom that is one byte, . v ^ > <, and 0 of any other byte.
-pub data AxisOf (byte : ℕ) : ℕ → Type 0 where
-  dot : byte ≡ 46 → AxisOf byte 1
-  letter_v : byte ≡ 118 → AxisOf byte 2
-  caret : byte ≡ 94 → AxisOf byte 3
-  greater : byte ≡ 62 → AxisOf byte 4
-  less : byte ≡ 60 → AxisOf byte 5
-  no_axis : ¬ Memᴰ byte (46 ∷ 118 ∷ 94 ∷ 62 ∷ 60 ∷ []) → AxisOf byte 0
+-- The kind of an atom that is one byte, . v ^ > <, and none of any other byte.
+pub data AxisOf (byte : ℕ) : Option Kind → Type 0 where
+  dot : byte ≡ 46 → AxisOf byte (Some kind.Itself)
+  letter_v : byte ≡ 118 → AxisOf byte (Some kind.Child)
+  caret : byte ≡ 94 → AxisOf byte (Some kind.Parent)
+  greater : byte ≡ 62 → AxisOf byte (Some kind.Next)
+  less : byte ≡ 60 → AxisOf byte (Some kind.Previous)
+  no_axis : ¬ Memᴰ byte (46 ∷ 118 ∷ 94 ∷ 62 ∷ 60 ∷ []) → AxisOf byte None
 
 -- The table has room for one more entry behind those of an operand that was read.
-abbrev pub RoomBehind : Parsed → Bytes → Type 0
-RoomBehind (Got at n) table = (1 ≤ n) × (6 * (n + 1) ≤ length table)
-RoomBehind (Broken i) table = Unit {0}
-RoomBehind (Deep i) table = Unit {0}
+abbrev pub RoomBehind : Answer → Bytes → Type 0
+RoomBehind (Ok r) table = (1 ≤ r.count) × (6 * (r.count + 1) ≤ length table)
+RoomBehind (Err z) table = Unit {0}
 
--- An entry of a kind stands behind its operand, where that was read; a stop is passed on.
-pub data Behind (kind : ℕ) (before : Bytes) : Parsed → Parsed → Bytes → Type 0 where
-  behind : {at n : ℕ} {after : Bytes} → Added before n (one kind 0 (n - 1) 0) after → Behind kind before (Got at n) (Got at (n + 1)) after
-  passed_on : {p : Parsed} {s : Stop} {i : ℕ} {after : Bytes} → StopsAt p s i → Behind kind before p p after
+-- An entry of a kind stands behind its operand, where that was read; a stop is passed up.
+pub data Behind (kind : ℕ) (before : Bytes) : Answer → Answer → Bytes → Type 0 where
+  behind : {r : Read} {after : Bytes} → Added before r.count (one kind 0 (r.count - 1) 0) after
+      → Behind kind before (Ok r) (Ok (record { at = r.at; count = r.count + 1 })) after
+  passed_on : {z : Stopped} {after : Bytes} → Behind kind before (Err z) (Err z) after

@@ -1,30 +1,31 @@
 // The entries of the local table, each of six bytes.
 ghost use Rattle.std.specs.Prelude.{◌≡◌, ◌+◌, ◌*◌, ◌<◌, ◌≤◌, length};
+ghost use Rattle.tables.specs.Kind.{number};
 ghost use Rattle.tokens.specs.Reading.{one, Added, Joins, RoomBehind, Behind};
-ghost use Rattle.tokens.specs.declared.answer.Parsed.TheVariants.{Got};
 
-use crate::answer::{Parsed, passed};
+use crate::answer::{Parsed, Read};
 use crate::kind::kind_of;
 use derivation::Chain;
+use tables::Kind;
 
 // Writes an entry behind the `count` entries that the table has.
-pub fn put(table: &mut [u8], count: usize, kind: u8, label: u8, left: usize, right: usize)
+pub fn put(table: &mut [u8], count: usize, kind: Kind, label: u8, left: usize, right: usize)
     requires { 6 * (count + 1) ≤ length table.old }
-    ensures { Added table.old count (one kind label left right) table.new }
+    ensures { Added table.old count (one (number kind) label left right) table.new }
 {
-    tables::put(table, count, kind, label, left, right);
+    tables::put(table, count, u8::from(kind), label, left, right);
 }
 
 // Writes an entry without operands; the text is read up to `next`.
-pub fn leaf(table: &mut [u8], count: usize, kind: u8, label: u8, next: usize) -> Parsed
+pub fn leaf(table: &mut [u8], count: usize, kind: Kind, label: u8, next: usize) -> Parsed
     requires { 6 * (count + 1) ≤ length table.old }
-    ensures { (result ≡ Got next (count + 1)) × Added table.old count (one kind label 0 0) table.new }
+    ensures { (result ≡ Ok (record { at = next; count = count + 1 })) × Added table.old count (one (number kind) label 0 0) table.new }
 {
     put(table, count, kind, label, 0, 0);
-    Parsed::Got {
+    Ok(Read {
         at: next,
         count: count + 1,
-    }
+    })
 }
 
 // Writes the entry that joins two links, where there are two: the entries from `from` up to `left` are the one, those up to `right` the
@@ -41,16 +42,14 @@ pub fn joined(table: &mut [u8], from: usize, left: usize, right: usize, chain: C
 }
 
 // Writes an entry behind its one operand, where that was read.
-pub fn behind(table: &mut [u8], operand: Parsed, kind: u8) -> Parsed
+pub fn behind(table: &mut [u8], operand: Parsed, kind: Kind) -> Parsed
     requires { RoomBehind operand table.old }
-    ensures { Behind kind table.old operand result table.new }
+    ensures { Behind (number kind) table.old operand result table.new }
 {
-    let Parsed::Got { at, count } = operand else {
-        return passed(operand);
-    };
+    let Read { at, count } = operand?;
     put(table, count, kind, 0, count - 1, 0);
-    Parsed::Got {
+    Ok(Read {
         at,
         count: count + 1,
-    }
+    })
 }

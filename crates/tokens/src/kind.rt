@@ -1,10 +1,11 @@
 // The kinds that are written for a text, and the bytes that stand for them there.
 ghost use Rattle.std.specs.Prelude.{◌≡◌};
 ghost use Rattle.derivation.proofs.Parts.{joining, closing_byte};
+ghost use Rattle.tables.specs.Kind.{number};
 ghost use Rattle.tokens.specs.Reading.{outer_chain, inner_chain, joined_kind, AxisOf};
 
 use derivation::{Bracket, Chain};
-use tables::{AND, CHILD, EITHER, NEXT, OR, PARENT, PREVIOUS, SELF, THEN};
+use tables::Kind;
 
 // A path is a chain of sequences, which are chains of items; a filter is a chain of conjunctions, which are chains of terms.
 #[derive(Clone, Copy)]
@@ -46,14 +47,14 @@ pub fn joint(chain: Chain) -> u8
 }
 
 // The kind of two links that are joined.
-pub fn kind_of(chain: Chain) -> u8
-    ensures { result ≡ joined_kind chain }
+pub fn kind_of(chain: Chain) -> Kind
+    ensures { number result ≡ joined_kind chain }
 {
     match chain {
-        Chain::Path => EITHER,
-        Chain::Sequence => THEN,
-        Chain::Filter => OR,
-        Chain::Conjunction => AND,
+        Chain::Path => Kind::Either,
+        Chain::Sequence => Kind::Then,
+        Chain::Filter => Kind::Or,
+        Chain::Conjunction => Kind::And,
     }
 }
 
@@ -68,16 +69,16 @@ pub fn closing(bracket: Bracket) -> u8
     }
 }
 
-// The kind of an atom that is one byte, 0 of any other byte.
-pub fn axis(byte: u8) -> u8
+// The kind of an atom that is one byte, none of any other byte.
+pub fn axis(byte: u8) -> Option<Kind>
     ensures { AxisOf byte result }
 {
     match byte {
-        b'.' => SELF,
-        b'v' => CHILD,
-        b'^' => PARENT,
-        b'>' => NEXT,
-        b'<' => PREVIOUS,
-        _ => 0,
+        b'.' => Some(Kind::Itself),
+        b'v' => Some(Kind::Child),
+        b'^' => Some(Kind::Parent),
+        b'>' => Some(Kind::Next),
+        b'<' => Some(Kind::Previous),
+        _ => None,
     }
 }

@@ -8,64 +8,58 @@ use Rattle.reply.specs.Bytes.{Bytes}
 use Rattle.derivation.proofs.Parts.{inside, joining}
 use Rattle.derivation.proofs.Rules.{StarsRead, term_bytes}
 use Rattle.derivation.specs.declared.Chain.{Chain}
-use Rattle.tokens.specs.declared.answer.Parsed.{Parsed}
-use Rattle.tokens.specs.declared.answer.Parsed.TheVariants.{Got}
+use Rattle.std.specs.Prelude.{Ok}
+use Rattle.reply.proofs.Checking.{met}
+use Rattle.tokens.specs.declared.answer.Read.{Read}
 use Rattle.tokens.specs.declared.kind.Sort.{Sort}
-use Rattle.tokens.specs.Reading.{RoomAhead, Follows, AxisOf, items, terms, chains, links, outer_chain, inner_chain}
-use Rattle.tokens.proofs.Answers.{not_got}
+use Rattle.tokens.specs.Reading.{RoomAhead, Follows, items, chains, links, outer_chain, inner_chain}
 use Rattle.tokens.proofs.Places as places
 use Rattle.tokens.proofs.Places.{nor, none_of}
 use Rattle.tokens.proofs.Following.{place_in_text, got_stands, room_after}
 use Rattle.tokens.proofs.Atoms.{square_follows, round_follows, axis_follows, no_atom}
-use Rattle.tokens.proofs.Enclosed.{bracket_too_deep, bracket_follows, path_inside, filter_inside, not_round}
+use Rattle.tokens.proofs.Enclosed.{bracket_too_deep, bracket_follows, filter_inside}
 use Rattle.tokens.proofs.Chains.{joint_seen, Chained, Going, ended}
 use Rattle.tokens.proofs.Begun.{first, further, linked, not_linked, begun_on, begun_ready, room_to_join, as_link, Standing}
 use Rattle.tokens.proofs.Stars.{atom_read, atom_not_read, no_star, starred}
 use Rattle.tokens.proofs.Terms.{t_follows, f_follows, label_follows, curly_follows, leads_follows, not_follows}
 use Rattle.parser.proofs.+read.Goals as goal
-use Rattle.parser.proofs.+read.Goals.{bracketed-in-Round, bracketed-in_default}
+use Rattle.parser.proofs.+read.Goals.{bracketed-in-Round, bracketed-in-Square, bracketed-After-closing}
 
 -- `atom`: by the byte at the place it is a bracket that is read, an axis that is written, or none.
-pub atom-returns-then-byte-eq91 : goal.atom-returns-then-byte-eq91
-atom-returns-then-byte-eq91 t c = square_follows c.bracketed-inner.ensures c.behind.ensures
+pub atom-returns-in-91 : goal.atom-returns-in-91
+atom-returns-in-91 t c = square_follows c.bracketed-inner.ensures c.behind.ensures
 
-pub atom-returns-then-byte-eq40 : goal.atom-returns-then-byte-eq40
-atom-returns-then-byte-eq40 t c = round_follows c.bracketed.ensures
+pub atom-returns-in-40 : goal.atom-returns-in-40
+atom-returns-in-40 t c = round_follows c.bracketed.ensures
 
-pub atom-returns-then-kind-eq0 : goal.atom-returns-then-kind-eq0
-atom-returns-then-kind-eq0 t c =
-    let at_axis = subst (λ (b : ℕ). AxisOf b c.axis-kind.result) c.byte_at-byte.ensures c.axis-kind.ensures in
-    no_atom c.requires.within (λ e. c.if-byte-eq91.false (c.byte_at-byte.ensures ∙ e)) (λ e. c.if-byte-eq40.false (c.byte_at-byte.ensures ∙ e)) at_axis
-    c.if-kind-eq0.true
+pub atom-returns-in_default-axis : goal.atom-returns-in_default-axis
+atom-returns-in_default-axis t c =
+    no_atom c.requires.within (λ e. omega arith) (λ e. omega arith) (rw c.byte_at.ensures at c.in_default-axis.ensures)
 
-pub atom-returns : goal.atom-returns
-atom-returns t c =
-    let at_axis = subst (λ (b : ℕ). AxisOf b c.axis-kind.result) c.byte_at-byte.ensures c.axis-kind.ensures in
-    axis_follows at_axis c.if-kind-eq0.false c.leaf.ensures
+pub atom-returns-in-Some : goal.atom-returns-in-Some
+atom-returns-in-Some t c = axis_follows (rw c.byte_at.ensures at c.in-Some.ensures) c.leaf.ensures
 
 -- `bracketed`: what stands in the bracket is a path or a filter, and either is closed in the same way.
 pub bracketed-returns-then-depth-ge-OPEN_BRACKETS : goal.bracketed-returns-then-depth-ge-OPEN_BRACKETS
 bracketed-returns-then-depth-ge-OPEN_BRACKETS t c = bracket_too_deep c.args.bracket _ _ c.requires.1 c.if-depth-ge-OPEN_BRACKETS.true
 
-pub bracketed-closed-requires : goal.bracketed-closed-requires
-bracketed-closed-requires t c =
-    let a = c.args in
-    let held : Follows (chains (inside a.bracket)) (a.depth + 1) a.text.now (a.at + 1) a.table.now a.count c.match-bracket.inner c.match-bracket.table =
+-- What is read in it is what stands in such a bracket.
+held : {t : ℕ} (c : bracketed-After-closing t)
+    → let a = c.args in
+    Follows (chains (inside a.bracket)) (a.depth + 1) a.text.now (a.at + 1) a.table.now a.count c.match-bracket.inner c.match-bracket.table
+held c =
     elim c.match-bracket.branch [
-      | bracketed-in-Round w ↦ rw (w.inner-is, w.table-is) (path_inside a.bracket (rw w.in-Round.is refl) w.path-inner.ensures)
-      | bracketed-in_default w ↦ rw (w.inner-is, w.table-is) (filter_inside a.bracket (not_round a.bracket w.in_default.not-Round) w.filter-inner.ensures)
-    ] in
-    place_in_text held
+      | bracketed-in-Round w ↦ rw (w.inner-is, w.table-is, w.in-Round.is) w.path-inner.ensures
+      | bracketed-in-Square w ↦ rw (w.inner-is, w.table-is) (filter_inside w.in-Square.is w.filter-inner.ensures)
+    ]
+
+pub bracketed-closed-requires : goal.bracketed-closed-requires
+bracketed-closed-requires t c = place_in_text (held c)
 
 pub bracketed-returns : goal.bracketed-returns
 bracketed-returns t c =
-    let a = c.args in
-    let held : Follows (chains (inside a.bracket)) (a.depth + 1) a.text.now (a.at + 1) a.table.now a.count c.match-bracket.inner c.match-bracket.table =
-    elim c.match-bracket.branch [
-      | bracketed-in-Round w ↦ rw (w.inner-is, w.table-is) (path_inside a.bracket (rw w.in-Round.is refl) w.path-inner.ensures)
-      | bracketed-in_default w ↦ rw (w.inner-is, w.table-is) (filter_inside a.bracket (not_round a.bracket w.in_default.not-Round) w.filter-inner.ensures)
-    ] in
-    bracket_follows a.bracket _ _ c.requires.1 c.if-depth-ge-OPEN_BRACKETS.false held c.closing.ensures c.closed.ensures
+    bracket_follows c.args.bracket _ _ c.requires.1 c.if-depth-ge-OPEN_BRACKETS.false (held (goal.at.bracketed-returns t c).After-closing)
+    c.closing.ensures c.closed.ensures
 
 -- `chained`: each turn reads a link of the inner chain; where that chain ends, it is a link of the outer one.
 module _ {of : Sort} {depth at count next begun left : ℕ} {text table now : Bytes}
@@ -77,113 +71,111 @@ module _ {of : Sort} {depth at count next begun left : ℕ} {text table now : By
   ready : length now ≡ length table → RoomAhead text next now left
   ready kept = begun_ready (inner_chain of) ready_inner (kept ∙ sym s.kept) s.inside
 
-  module _ {p : Parsed} {last right : ℕ} {after : Bytes} (got : p ≡ Got last right)
-      (link : Follows (links (inner_chain of)) depth text next now left p after) where
+  module _ {r : Read} {after : Bytes} (link : Follows (links (inner_chain of)) depth text next now left (Ok r) after) where
     -- a link goes on in the text and writes something, and there is room for an entry that joins it
-    one_more : (next < last) × (last ≤ length text) × (left < right) × (begun < left → 6 * (right + 1) ≤ length table)
+    one_more : (next < r.at) × (r.at ≤ length text) × (left < r.count) × (begun < left → 6 * (r.count + 1) ≤ length table)
     one_more =
-        let st = (got_stands got link).2 in
+        let st = (got_stands link).2 in
         let e = s.kept in
         (st.further, st.within, st.some, λ l. let r = room_to_join (inner_chain of) ready_inner s.inside st l in omega arith)
 
   module _ {last m : ℕ} {after : Bytes} (read : Chained (inner_chain of) depth text s.from s.mid begun last m after) where
     -- where another byte than that of the inner chain stands, that has ended, and is a link of the outer one
     link_outer : (get_or text last 0 ≡ joining (inner_chain of) → ⊥)
-        → Follows (links (outer_chain of)) depth text s.from s.mid begun (Got last m) after
+        → Follows (links (outer_chain of)) depth text s.from s.mid begun (Ok (record { at = last; count = m })) after
     link_outer other = as_link of (ended (inner_chain of) read other)
 
     -- which writes something, and there is room for an entry that joins it
     outer_more : (get_or text last 0 ≡ joining (inner_chain of) → ⊥) → (begun < m) × (count < begun → 6 * (m + 1) ≤ length table)
     outer_more other =
-        let st = (got_stands refl (link_outer other)).2 in
+        let st = (got_stands (link_outer other)).2 in
         (st.some, λ l. room_to_join (outer_chain of) room s.outside st l)
 
 -- where the byte of a chain stands, it is in the text
 in_text : (text : Bytes) (i : ℕ) (of : Chain) → get_or text i 0 ≡ joining of → i < length text
 in_text text i of e = places.inside text i (subst (λ (b : ℕ). 0 < b) (sym e) (joint_seen of))
 
-pub chained-loop-last-init : goal.chained-loop-last-init
-chained-loop-last-init t c = (refl, record { from = _; mid = _; kept = refl; outside = first; inside = first })
+pub chained-loop-read-init : goal.chained-loop-read-init
+chained-loop-read-init t c = (refl, record { from = _; mid = _; kept = refl; outside = first; inside = first })
 
-pub chained-link-more-requires : goal.chained-link-more-requires
-chained-link-more-requires t c =
-    let s = c.loop-last.invariant.1 in
-    let r = ready c.requires s c.loop-last.invariant.0 in
+pub chained-link-requires : goal.chained-link-requires
+chained-link-requires t c =
+    let s = c.loop-read.invariant.1 in
+    let r = ready c.requires s c.loop-read.invariant.0 in
     let w = r.within in
     let a = begun_on (outer_chain c.args.of) s.outside in
     let b = begun_on (inner_chain c.args.of) s.inside in
     (omega arith, r)
 
-pub chained-returns-in_default : goal.chained-returns-in_default
-chained-returns-in_default t c =
-    let s = c.loop-last.invariant.1 in
-    let failed = not_got _ c.in_default.not-Got in
-    let not_inner = not_linked (inner_chain c.args.of) s.inside failed c.link-more.ensures in
-    rw c.passed.ensures (not_linked (outer_chain c.args.of) s.outside failed (as_link c.args.of not_inner))
+pub chained-returns-in_err-read : goal.chained-returns-in_err-read
+chained-returns-in_err-read t c =
+    let s = c.loop-read.invariant.1 in
+    let not_inner = not_linked (inner_chain c.args.of) s.inside c.in_err-read.ensures in
+    rw (met c.from_residual.ensures.1) (not_linked (outer_chain c.args.of) s.outside (as_link c.args.of not_inner))
 
 pub chained-joined-left-requires : goal.chained-joined-left-requires
 chained-joined-left-requires t c =
-    let m = one_more c.requires c.loop-last.invariant.1 c.in-Got.is c.link-more.ensures in
-    let e = c.link-more.auto.table ∙ c.loop-last.invariant.0 in
+    let m = one_more c.requires c.loop-read.invariant.1 c.in_ok-read.ensures in
+    let e = c.link.auto.table ∙ c.loop-read.invariant.0 in
     (m.2, λ l. let r = m.3 l in omega arith)
 
-pub chained-loop-last-smaller-then-byte-joint : goal.chained-loop-last-smaller-then-byte-joint
-chained-loop-last-smaller-then-byte-joint t c =
+pub chained-loop-read-smaller-then-byte-joint : goal.chained-loop-read-smaller-then-byte-joint
+chained-loop-read-smaller-then-byte-joint t c =
     let of = c.args.of in
-    let s = c.loop-last.invariant.1 in
-    let byte = sym c.byte_at-byte.ensures ∙ c.if-byte-joint.true ∙ c.joint.ensures ∙ ap joining c.inner-in-loop-last.ensures in
-    let more = one_more c.requires s c.in-Got.is c.link-more.ensures in
-    omega (arith, in_text c.args.text.now c.in-Got.last (inner_chain of) byte, more.0)
+    let s = c.loop-read.invariant.1 in
+    let byte = sym c.byte_at-byte.ensures ∙ c.if-byte-joint.true ∙ c.joint.ensures ∙ ap joining c.inner-in-loop-read.ensures in
+    let more = one_more c.requires s c.in_ok-read.ensures in
+    omega (arith, in_text c.args.text.now c.in_ok-read.read.at (inner_chain of) byte, more.0)
 
-pub chained-loop-last-preserved-then-byte-joint : goal.chained-loop-last-preserved-then-byte-joint
-chained-loop-last-preserved-then-byte-joint t c =
+pub chained-loop-read-preserved-then-byte-joint : goal.chained-loop-read-preserved-then-byte-joint
+chained-loop-read-preserved-then-byte-joint t c =
     let of = c.args.of in
-    let s = c.loop-last.invariant.1 in
-    let byte = sym c.byte_at-byte.ensures ∙ c.if-byte-joint.true ∙ c.joint.ensures ∙ ap joining c.inner-in-loop-last.ensures in
-    let read = linked (inner_chain of) s.inside c.in-Got.is c.link-more.ensures c.inner.ensures c.joined-left.ensures in
-    let kept = c.joined-left.auto.table ∙ c.link-more.auto.table ∙ c.loop-last.invariant.0 in
+    let s = c.loop-read.invariant.1 in
+    let byte = sym c.byte_at-byte.ensures ∙ c.if-byte-joint.true ∙ c.joint.ensures ∙ ap joining c.inner-in-loop-read.ensures in
+    let read = linked (inner_chain of) s.inside c.in_ok-read.ensures c.inner.ensures c.joined-left.ensures in
+    let kept = c.joined-left.auto.table ∙ c.link.auto.table ∙ c.loop-read.invariant.0 in
     (kept, record { from = s.from; mid = s.mid; kept = s.kept; outside = s.outside; inside = further read byte })
 
 pub chained-joined-begun-requires : goal.chained-joined-begun-requires
 chained-joined-begun-requires t c =
     let of = c.args.of in
-    let s = c.loop-last.invariant.1 in
-    let read = linked (inner_chain of) s.inside c.in-Got.is c.link-more.ensures c.inner.ensures c.joined-left.ensures in
-    let kept = c.joined-left.auto.table ∙ c.link-more.auto.table ∙ c.loop-last.invariant.0 in
-    let other : get_or c.args.text.now c.in-Got.last 0 ≡ joining (inner_chain of) → ⊥ =
-    λ e. c.if-byte-joint.false (c.byte_at-byte.ensures ∙ e ∙ sym (c.joint.ensures ∙ ap joining c.inner-in-loop-last.ensures)) in
+    let s = c.loop-read.invariant.1 in
+    let read = linked (inner_chain of) s.inside c.in_ok-read.ensures c.inner.ensures c.joined-left.ensures in
+    let kept = c.joined-left.auto.table ∙ c.link.auto.table ∙ c.loop-read.invariant.0 in
+    let other : get_or c.args.text.now c.in_ok-read.read.at 0 ≡ joining (inner_chain of) → ⊥ =
+    λ e. c.if-byte-joint.false (c.byte_at-byte.ensures ∙ e ∙ sym (c.joint.ensures ∙ ap joining c.inner-in-loop-read.ensures)) in
     let more = outer_more c.requires s read other in
     (more.0, λ l. let r = more.1 l in omega arith)
 
 pub chained-returns-then-byte-joint-2 : goal.chained-returns-then-byte-joint-2
 chained-returns-then-byte-joint-2 t c =
     let of = c.args.of in
-    let s = c.loop-last.invariant.1 in
-    let read = linked (inner_chain of) s.inside c.in-Got.is c.link-more.ensures c.inner.ensures c.joined-left.ensures in
-    let other : get_or c.args.text.now c.in-Got.last 0 ≡ joining (inner_chain of) → ⊥ =
-    λ e. c.if-byte-joint.false (c.byte_at-byte.ensures ∙ e ∙ sym (c.joint.ensures ∙ ap joining c.inner-in-loop-last.ensures)) in
-    let outer = linked (outer_chain of) s.outside refl (link_outer c.requires s read other) c.outer.ensures c.joined-begun.ensures in
+    let s = c.loop-read.invariant.1 in
+    let read = linked (inner_chain of) s.inside c.in_ok-read.ensures c.inner.ensures c.joined-left.ensures in
+    let other : get_or c.args.text.now c.in_ok-read.read.at 0 ≡ joining (inner_chain of) → ⊥ =
+    λ e. c.if-byte-joint.false (c.byte_at-byte.ensures ∙ e ∙ sym (c.joint.ensures ∙ ap joining c.inner-in-loop-read.ensures)) in
+    let outer = linked (outer_chain of) s.outside (link_outer c.requires s read other) c.outer.ensures c.joined-begun.ensures in
     ended (outer_chain of) outer
-    (λ e. c.if-byte-joint-2.true (c.byte_at-byte.ensures ∙ e ∙ sym (c.joint-in-loop-last.ensures ∙ ap joining c.outer-in-loop-last.ensures)))
+    (λ e. c.if-byte-joint-2.true (c.byte_at-byte.ensures ∙ e ∙ sym (c.joint-in-loop-read.ensures ∙ ap joining c.outer-in-loop-read.ensures)))
 
-pub chained-loop-last-smaller : goal.chained-loop-last-smaller
-chained-loop-last-smaller t c =
+pub chained-loop-read-smaller : goal.chained-loop-read-smaller
+chained-loop-read-smaller t c =
     let of = c.args.of in
-    let s = c.loop-last.invariant.1 in
-    let byte = sym c.byte_at-byte.ensures ∙ c.if-byte-joint-2.false ∙ c.joint-in-loop-last.ensures ∙ ap joining c.outer-in-loop-last.ensures in
-    let more = one_more c.requires s c.in-Got.is c.link-more.ensures in
-    omega (arith, in_text c.args.text.now c.in-Got.last (outer_chain of) byte, more.0)
+    let s = c.loop-read.invariant.1 in
+    let byte = sym c.byte_at-byte.ensures ∙ c.if-byte-joint-2.false ∙ c.joint-in-loop-read.ensures ∙ ap joining c.outer-in-loop-read.ensures in
+    let more = one_more c.requires s c.in_ok-read.ensures in
+    omega (arith, in_text c.args.text.now c.in_ok-read.read.at (outer_chain of) byte, more.0)
 
-pub chained-loop-last-preserved : goal.chained-loop-last-preserved
-chained-loop-last-preserved t c =
+pub chained-loop-read-preserved : goal.chained-loop-read-preserved
+chained-loop-read-preserved t c =
     let of = c.args.of in
-    let s = c.loop-last.invariant.1 in
-    let read = linked (inner_chain of) s.inside c.in-Got.is c.link-more.ensures c.inner.ensures c.joined-left.ensures in
-    let kept = c.joined-left.auto.table ∙ c.link-more.auto.table ∙ c.loop-last.invariant.0 in
-    let other : get_or c.args.text.now c.in-Got.last 0 ≡ joining (inner_chain of) → ⊥ =
-    λ e. c.if-byte-joint.false (c.byte_at-byte.ensures ∙ e ∙ sym (c.joint.ensures ∙ ap joining c.inner-in-loop-last.ensures)) in
-    let outer = linked (outer_chain of) s.outside refl (link_outer c.requires s read other) c.outer.ensures c.joined-begun.ensures in
-    let byte = sym c.byte_at-byte.ensures ∙ c.if-byte-joint-2.false ∙ c.joint-in-loop-last.ensures ∙ ap joining c.outer-in-loop-last.ensures in
+    let s = c.loop-read.invariant.1 in
+    let read = linked (inner_chain of) s.inside c.in_ok-read.ensures c.inner.ensures c.joined-left.ensures in
+    let kept = c.joined-left.auto.table ∙ c.link.auto.table ∙ c.loop-read.invariant.0 in
+    let other : get_or c.args.text.now c.in_ok-read.read.at 0 ≡ joining (inner_chain of) → ⊥ =
+    λ e. c.if-byte-joint.false (c.byte_at-byte.ensures ∙ e ∙ sym (c.joint.ensures ∙ ap joining c.inner-in-loop-read.ensures)) in
+    let outer = linked (outer_chain of) s.outside (link_outer c.requires s read other) c.outer.ensures c.joined-begun.ensures in
+    let byte = sym c.byte_at-byte.ensures ∙ c.if-byte-joint-2.false ∙ c.joint-in-loop-read.ensures ∙ ap joining c.outer-in-loop-read.ensures in
     let kept_outer = c.joined-begun.auto.table ∙ kept in
     (kept_outer, record { from = _; mid = _; kept = kept_outer; outside = further outer byte; inside = first })
 
@@ -201,24 +193,24 @@ one_star {next = next} {text = text} r g e =
     let h = a.some in
     (l, omega arith, omega arith)
 
-pub item-returns-in_default : goal.item-returns-in_default
-item-returns-in_default t c = rw c.passed.ensures (atom_not_read (not_got _ c.in_default.not-Got) c.atom-first.ensures)
+pub item-returns-in_err-read : goal.item-returns-in_err-read
+item-returns-in_err-read t c = rw (met c.from_residual.ensures.1) (atom_not_read c.in_err-read.ensures)
 
-pub item-overflow_sub-written : goal.item-overflow_sub-written
-item-overflow_sub-written t c =
-    let going = c.loop-table.invariant.1 c.args.table.now (atom_read c.in-Got.is c.atom-first.ensures) in
+pub item-overflow_sub-read : goal.item-overflow_sub-read
+item-overflow_sub-read t c =
+    let going = c.loop-table.invariant.1 c.args.table.now (atom_read c.in_ok-read.ensures) in
     (one_star c.requires going (sym c.byte_at.ensures ∙ c.loop-table-test.true)).1
 
 pub item-put-requires : goal.item-put-requires
 item-put-requires t c =
-    let going = c.loop-table.invariant.1 c.args.table.now (atom_read c.in-Got.is c.atom-first.ensures) in
+    let going = c.loop-table.invariant.1 c.args.table.now (atom_read c.in_ok-read.ensures) in
     let room = one_star c.requires going (sym c.byte_at.ensures ∙ c.loop-table-test.true) in
-    let kept = c.loop-table.invariant.0 ∙ c.atom-first.auto.table in
+    let kept = c.loop-table.invariant.0 ∙ c.atom.auto.table in
     omega arith
 
-pub item-overflow_add-written : goal.item-overflow_add-written
-item-overflow_add-written t c =
-    let going = c.loop-table.invariant.1 c.args.table.now (atom_read c.in-Got.is c.atom-first.ensures) in
+pub item-overflow_add-read-in-loop-table : goal.item-overflow_add-read-in-loop-table
+item-overflow_add-read-in-loop-table t c =
+    let going = c.loop-table.invariant.1 c.args.table.now (atom_read c.in_ok-read.ensures) in
     let room = one_star c.requires going (sym c.byte_at.ensures ∙ c.loop-table-test.true) in
     omega (arith, c.well_formed.1)
 
@@ -229,7 +221,7 @@ item-loop-table-preserved t c =
 
 pub item-returns : goal.item-returns
 item-returns t c =
-    let going = c.loop-table.invariant.1 c.args.table.now (atom_read c.in-Got.is c.atom-first.ensures) in
+    let going = c.loop-table.invariant.1 c.args.table.now (atom_read c.in_ok-read.ensures) in
     no_star going (λ e. c.loop-table-test.false (c.byte_at.ensures ∙ e))
 
 -- `link`: the links of a sequence are items, and those of a conjunction terms.
@@ -241,13 +233,13 @@ link-returns-in-Filter t c = rw c.in-Filter.is c.term.ensures
 
 -- `plain`: by the byte at the place one of four terms, or a path.
 pub plain-returns-in-116 : goal.plain-returns-in-116
-plain-returns-in-116 t c = t_follows (sym c.byte_at-byte.ensures ∙ c.in-116.is) c.leaf.ensures
+plain-returns-in-116 t c = t_follows (sym c.byte_at.ensures ∙ c.in-116.is) c.leaf.ensures
 
 pub plain-returns-in-102 : goal.plain-returns-in-102
-plain-returns-in-102 t c = f_follows (sym c.byte_at-byte.ensures ∙ c.in-102.is) c.leaf-in-102.ensures
+plain-returns-in-102 t c = f_follows (sym c.byte_at.ensures ∙ c.in-102.is) c.leaf-in-102.ensures
 
 pub plain-returns-in-35 : goal.plain-returns-in-35
-plain-returns-in-35 t c = label_follows (sym c.byte_at-byte.ensures ∙ c.in-35.is) c.labelled.ensures
+plain-returns-in-35 t c = label_follows (sym c.byte_at.ensures ∙ c.in-35.is) c.labelled.ensures
 
 pub plain-returns-in-123 : goal.plain-returns-in-123
 plain-returns-in-123 t c = curly_follows c.bracketed.ensures
@@ -259,22 +251,23 @@ plain-returns-in_default t c =
     leads_follows none c.path-inner.ensures c.behind.ensures
 
 -- `term`: each turn puts one more of the `!` that were passed in front of what is read.
+pub term-loop-init : goal.term-loop-init
+term-loop-init t c = (refl, λ before place e f. let same : place ≡ c.past_nots-next.result = omega arith in rw same f)
+
 pub term-behind-answer-requires : goal.term-behind-answer-requires
 term-behind-answer-requires t c =
-    let answered = c.loop-next.invariant.3 c.args.table.now c.plain-answer.ensures in
-    let kept = c.loop-next.invariant.2 ∙ c.plain-answer.auto.table in
-    room_after answered c.requires c.loop-next.invariant.0 (omega arith) kept
+    let place : ℕ = c.args.at + c.past_nots-next.result - c.loop.counter in
+    let answered = c.loop.invariant.1 c.args.table.now place (omega arith) c.plain-answer.ensures in
+    let kept = c.loop.invariant.0 ∙ c.plain-answer.auto.table in
+    room_after answered c.requires (omega arith) (omega arith) kept
 
-pub term-loop-next-preserved : goal.term-loop-next-preserved
-term-loop-next-preserved t c =
-    let a = c.args in
-    let place : ℕ = c.loop-next.next - 1 in
-    let e : place + 1 ≡ c.loop-next.next = omega arith in
-    let byte = c.past_nots-next.ensures.each place (omega arith) (omega arith) in (
-      omega arith,
-      omega arith,
-      c.behind-answer.auto.table ∙ c.loop-next.invariant.2,
-      λ before f.
-          let one_on = subst (λ (i : ℕ). Follows terms a.depth a.text.now i before a.count c.loop-next.answer c.loop-next.table) (sym e) (c.loop-next.invariant.3 before f) in
-          not_follows byte one_on c.behind-answer.ensures,
-    )
+pub term-loop-preserved : goal.term-loop-preserved
+term-loop-preserved t c = (
+  c.behind-answer.auto.table ∙ c.loop.invariant.0,
+  λ before place e f.
+      let byte = c.past_nots-next.ensures.each place (omega arith) (omega arith) in
+      not_follows byte (c.loop.invariant.1 before (place + 1) (omega arith) f) c.behind-answer.ensures,
+)
+
+pub term-returns : goal.term-returns
+term-returns t c = c.loop.invariant.1 c.args.table.now c.args.at (omega arith) c.plain-answer.ensures

@@ -1,6 +1,6 @@
 -- The readers of paths and filters, which call each other. The measure of each is 16 for each byte that is not read, and a rank among those
 -- that call each other at one place; and what their loops keep.
-use Prim.Native.Nat.{ℕ, ◌+◌, ◌-◌, ◌*◌, ◌≤◌}
+use Prim.Native.Nat.{ℕ, ◌+◌, ◌-◌, ◌*◌}
 use mathlib.Core.Path.{◌≡◌}
 use mathlib.Core.List.{List}
 use lib.ListN.{length}
@@ -50,29 +50,27 @@ abbrev pub decreases-filter : goal.decreases-filter
 decreases-filter l = unread l.text.now l.at 13
 
 -- a turn of `chained` reads a link of the inner chain
-abbrev pub invariant-chained-loop-last : goal.invariant-chained-loop-last
-invariant-chained-loop-last l =
+abbrev pub invariant-chained-loop-read : goal.invariant-chained-loop-read
+invariant-chained-loop-read l =
     (length l.table ≡ length l.initial.table) × Standing l.of l.depth l.text l.at l.initial.table l.count l.next l.begun l.left l.table
 
-abbrev pub decreases-chained-loop-last : goal.decreases-chained-loop-last
-decreases-chained-loop-last l = length l.text - l.next
+abbrev pub decreases-chained-loop-read : goal.decreases-chained-loop-read
+decreases-chained-loop-read l = length l.text - l.next
 
 -- a turn of `item` adds one star to the atom that was read
 abbrev pub invariant-item-loop-table : goal.invariant-item-loop-table
 invariant-item-loop-table l =
     (length l.table ≡ length l.initial.table)
-    × ((before : Bytes) → Going items StarsRead l.depth l.text l.at before l.count l.initial.next l.initial.written l.initial.table
-    → Going items StarsRead l.depth l.text l.at before l.count l.next l.written l.table)
+    × ((before : Bytes) → Going items StarsRead l.depth l.text l.at before l.count l.initial.read.at l.initial.read.count l.initial.table
+    → Going items StarsRead l.depth l.text l.at before l.count l.read.at l.read.count l.table)
 
 abbrev pub decreases-item-loop-table : goal.decreases-item-loop-table
-decreases-item-loop-table l = length l.text - l.next
+decreases-item-loop-table l = length l.text - l.read.at
 
--- in `term`, what is answered for the place where the loop begins, is for the place where it stands
-abbrev pub invariant-term-loop-next : goal.invariant-term-loop-next
-invariant-term-loop-next l =
-    (l.at ≤ l.next) × (l.next ≤ l.initial.next) × (length l.table ≡ length l.initial.table)
-    × ((before : Bytes) → Follows terms l.depth l.text l.initial.next before l.count l.initial.answer l.initial.table
-    → Follows terms l.depth l.text l.next before l.count l.answer l.table)
-
-abbrev pub decreases-term-loop-next : goal.decreases-term-loop-next
-decreases-term-loop-next l = l.next
+-- in `term`, what is answered for the place where the loop begins, is for the place that as many `!` in front of it are counted back to
+abbrev pub invariant-term-loop : goal.invariant-term-loop
+invariant-term-loop l =
+    (length l.table ≡ length l.initial.table)
+    × ((before : Bytes) (place : ℕ) → place + l.counter ≡ l.at + l.next
+    → Follows terms l.depth l.text l.next before l.count l.initial.answer l.initial.table
+    → Follows terms l.depth l.text place before l.count l.answer l.table)

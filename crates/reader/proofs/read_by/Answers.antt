@@ -1,61 +1,57 @@
 -- `read_by`: each of the ways in which a text is read comes out as call 2 promises, where its length is right.
 use Prim.Native.Nat.{ℕ, ◌≤◌}
 use native.Mathlib.Omega.{arith}
-use mathlib.Core.Path.{sym}
-use lib.Seq.{length-take-le}
+use mathlib.Core.Path.{◌≡◌, sym, ap, ◌∙◌}
 use Rattle.reply.specs.Bytes.{Bytes}
-use Rattle.tokens.specs.Reading.{place_of}
+use Rattle.std.specs.Prelude.{Err}
+use Rattle.tokens.specs.declared.answer.Stopped.TheVariants.{Broken, Deep}
+use lib.Seq.{length-take-le}
 use Rattle.derivation.proofs.Mistakes.{PlainBelow}
-use Rattle.reader.specs.Reader.{FirstSlip}
 use Rattle.reader.proofs.Parsing.{reached_clear}
-use Rattle.reader.proofs.Answering.{Read, got_read, slip_told, broken_told, deep_told, text_told}
+use Rattle.reader.proofs.Answering.{Whole, whole, slip_told, broken_told, deep_told, text_told}
 use Rattle.reader.proofs.read_by.Goals as goal
-use Rattle.reader.proofs.read_by.Goals.{After-slip_before-slip, In-Got}
+use Rattle.reader.proofs.read_by.Goals.{In-Ok}
 
--- the first slip, of those before the place where reading comes to
-slip : (c : After-slip_before-slip) → FirstSlip c.args.text.now (place_of c.read_whole-parsed.result) c.slip_before-slip.result
-slip c = rw c.reached-end.ensures at c.slip_before-slip.ensures
-
--- there is none before a place up to which none was found
-plain : {text : Bytes} {end slip place : ℕ} → FirstSlip text end slip → place ≤ slip → PlainBelow text place
-plain s l k h = s.none k (omega arith)
+-- where no star stands behind a star before a place, none does before a place that is not behind it
+plain : {text : Bytes} {end place : ℕ} → PlainBelow text end → place ≤ end → PlainBelow text place
+plain p l k h = p k (omega arith)
 
 -- what is read, where a text is
-found : (c : In-Got) → Read c.in-Got.is c.read_whole-parsed.ensures
-found c = got_read c.in-Got.is c.read_whole-parsed.ensures
+found : (c : In-Ok) → Whole c.in-Ok.ensures
+found c = whole c.in-Ok.ensures
 
-pub slip_before-slip-requires : goal.slip_before-slip-requires
-slip_before-slip-requires c = rw c.reached-end.ensures (reached_clear c.read_whole-parsed.ensures).1
+pub slip_before-requires : goal.slip_before-requires
+slip_before-requires c = rw c.reached-end.ensures (reached_clear c.read_whole-parsed.ensures).1
 
-pub returns-then-slip-end : goal.returns-then-slip-end
-returns-then-slip-end c =
+pub returns-in-Some : goal.returns-in-Some
+returns-in-Some c =
     let given = c.requires in
-    slip_told _ _ given.2 given.0 c.read_whole-parsed.ensures (slip (goal.at.returns-then-slip-end c).After-slip_before-slip)
-    (rw c.reached-end.ensures at c.if-slip-end.true) c.refuse.ensures
-
-pub overflow_mul-size : goal.overflow_mul-size
-overflow_mul-size c = omega (arith, (found c).few)
+    slip_told _ _ given.2 given.0 c.read_whole-parsed.ensures (rw c.reached-end.ensures at c.in-Some.ensures) c.refuse.ensures
 
 pub slice_bounds-write_out-end : goal.slice_bounds-write_out-end
-slice_bounds-write_out-end c = (found c).long
+slice_bounds-write_out-end c = (found (goal.at.slice_bounds-write_out-end c).In-Ok).long
 
-pub slice_bounds-write_out-end-in-Got : goal.slice_bounds-write_out-end-in-Got
-slice_bounds-write_out-end-in-Got c = sym (length-take-le _ _ (found c).long)
+pub slice_bounds-write_out-end-in-Ok : goal.slice_bounds-write_out-end-in-Ok
+slice_bounds-write_out-end-in-Ok c = sym (length-take-le _ _ (found (goal.at.slice_bounds-write_out-end-in-Ok c).In-Ok).long)
 
-pub returns-in-Broken : goal.returns-in-Broken
-returns-in-Broken c =
+pub returns-in-Ok : goal.returns-in-Ok
+returns-in-Ok c =
     let given = c.requires in
-    broken_told _ _ given.2 given.0 c.in-Broken.is c.read_whole-parsed.ensures (plain c.slip_before-slip.ensures (omega (arith, c.if-slip-end.false, c.reached-end.ensures)))
-    c.refuse-in-Broken.ensures
-
-pub returns-in-Deep : goal.returns-in-Deep
-returns-in-Deep c =
-    let given = c.requires in
-    deep_told _ _ given.2 given.0 c.in-Deep.is c.read_whole-parsed.ensures (plain c.slip_before-slip.ensures (omega (arith, c.if-slip-end.false, c.reached-end.ensures)))
-    c.refuse-in-Deep.ensures
-
-pub returns-in-Got : goal.returns-in-Got
-returns-in-Got c =
-    let given = c.requires in
-    text_told _ _ given.2 given.0 c.in-Got.is c.read_whole-parsed.ensures (plain c.slip_before-slip.ensures (omega (arith, c.if-slip-end.false, c.reached-end.ensures)))
+    text_told _ _ given.2 given.0 c.in-Ok.ensures (plain c.in_default.ensures (omega (arith, rw c.in-Ok.is at c.reached-end.ensures)))
     c.write_out.ensures
+
+pub returns-in-Err-Broken : goal.returns-in-Err-Broken
+returns-in-Err-Broken c =
+    let given = c.requires in
+    let f : c.in-Err-Broken.field-0 ≡ Broken c.in-Err-Broken.at = rw c.in-Err-Broken.is at c.in-Err-Broken.field-0-is in
+    let is : c.read_whole-parsed.result ≡ Err (Broken c.in-Err-Broken.at) = c.in-Err-Broken.is ∙ ap Err f in
+    broken_told _ _ given.2 given.0 (rw is at c.read_whole-parsed.ensures)
+    (plain c.in_default.ensures (omega (arith, rw is at c.reached-end.ensures))) c.refuse-in-Err-Broken.ensures
+
+pub returns-in-Err-Deep : goal.returns-in-Err-Deep
+returns-in-Err-Deep c =
+    let given = c.requires in
+    let f : c.in-Err-Deep.field-0 ≡ Deep c.in-Err-Deep.at = rw c.in-Err-Deep.is at c.in-Err-Deep.field-0-is in
+    let is : c.read_whole-parsed.result ≡ Err (Deep c.in-Err-Deep.at) = c.in-Err-Deep.is ∙ ap Err f in
+    deep_told _ _ given.2 given.0 (rw is at c.read_whole-parsed.ensures)
+    (plain c.in_default.ensures (omega (arith, rw is at c.reached-end.ensures))) c.refuse-in-Err-Deep.ensures

@@ -3,15 +3,18 @@ use native.Mathlib.Omega.{arith}
 use Rattle.text.specs.Promise.{bad_length}
 use Rattle.reader.proofs.Answering.{short_room, fault_told}
 use Rattle.reader.proofs.read_text.Goals as goal
+use Rattle.reader.proofs.read_text.Goals.{in_default-via-then-text-lt1, in_default-via-else-text-lt1+else-this-lt129+else-this-lt1025}
 
 pub returns-then-room-lt-TABLE_ROOM : goal.returns-then-room-lt-TABLE_ROOM
 returns-then-room-lt-TABLE_ROOM c = short_room _ _ c.if-room-lt-TABLE_ROOM.true c.refuse.ensures
 
-pub returns-then-text-eq0 : goal.returns-then-text-eq0
-returns-then-text-eq0 c =
-    fault_told _ _ c.if-room-lt-TABLE_ROOM.false (bad_length (λ l. let e = c.if-text-eq0.true in omega (arith, l.some))) c.refuse-then-text-eq0.ensures
-
-pub returns-then-text-gt-TEXT_BYTES : goal.returns-then-text-gt-TEXT_BYTES
-returns-then-text-gt-TEXT_BYTES c =
-    let room = c.if-room-lt-TABLE_ROOM.false in
-    fault_told _ _ room (bad_length (λ l. let e = c.if-text-gt-TEXT_BYTES.true in omega (arith, l.most))) c.refuse-then-text-gt-TEXT_BYTES.ensures
+pub returns-in_default : goal.returns-in_default
+returns-in_default c =
+    fault_told _ _ c.if-room-lt-TABLE_ROOM.false (bad_length (λ l.
+    let some = l.some in
+    let most = l.most in
+    elim c.in_default.branch [
+      | in_default-via-then-text-lt1 w ↦ omega arith
+      | in_default-via-else-text-lt1+else-this-lt129+else-this-lt1025 w ↦ omega arith
+    ]))
+    c.refuse-in_default.ensures

@@ -1,17 +1,15 @@
 -- `read_whole`: a text is a path if it is read up to its end, and breaks where something stands behind the path.
-use Rattle.tokens.proofs.Answers.{not_got}
+use Rattle.reply.proofs.Checking.{met}
 use Rattle.reader.proofs.Parsing.{stopped_parses, longer_parses, whole_parses}
 use Rattle.reader.proofs.read_whole.Goals as goal
 
-pub returns-in_default : goal.returns-in_default
-returns-in_default c = stopped_parses (not_got _ c.in_default.not-Got) c.path-parsed.ensures
+pub returns-in_err-read : goal.returns-in_err-read
+returns-in_err-read c = rw (met c.from_residual.ensures.1) (stopped_parses c.in_err-read.ensures)
 
-pub returns-then-at-text : goal.returns-then-at-text
-returns-then-at-text c =
-    longer_parses c.in-Got.is c.if-at-text.true c.path-parsed.ensures
+pub returns-then-read-text : goal.returns-then-read-text
+returns-then-read-text c = longer_parses c.if-read-text.true c.in_ok-read.ensures
 
 pub returns : goal.returns
 returns c =
     let given = c.requires in
-    let read = c.path-parsed in
-    whole_parses given.0 c.in-Got.is c.if-at-text.false given.1 read.auto.table read.ensures
+    whole_parses given.0 c.if-read-text.false given.1 c.path.auto.table c.in_ok-read.ensures

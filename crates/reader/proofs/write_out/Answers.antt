@@ -5,10 +5,8 @@ use Rattle.reader.proofs.Answering.{written_out, refused_out}
 use Rattle.reader.proofs.write_out.Goals as goal
 
 pub returns-in_default : goal.returns-in_default
-returns-in_default c =
-    let check = c.check_query-checked in
-    refused_out _ check.result (rw c.in_default.is refl) check.ensures c.refuse.ensures
+returns-in_default c = refused_out _ c.in_default.ensures c.refuse.ensures
 
 pub returns : goal.returns
 returns c =
-    written_out _ c.in-Count.is c.check_query-checked.ensures c.requires (rw (c.copy_from_slice.ensures.after, take-length) refl)
+    written_out _ c.in-Ok.is c.check_query.ensures c.requires (rw (c.copy_from_slice.ensures.after, take-length) refl)
