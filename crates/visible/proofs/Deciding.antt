@@ -1,16 +1,17 @@
 -- With the index of the annotation and the answers of its filters, who is shown is who is visible. Assumes nothing.
-use Prim.Native.Nat.{ℕ, zero, suc, ◌+◌, ◌*◌, ◌<◌}
+use Prim.Native.Nat.{ℕ, zero, suc, ◌<◌}
 use native.Mathlib.Omega.{arith}
 use mathlib.Core.Path.{◌≡◌, refl, sym, subst}
 use mathlib.Core.Logic.{◌↔◌, ⊎_elim}
 use mathlib.Core.List.Memᴰ
 use mathlib.Core.List.{List, [], ◌∷◌, map, Memᴰ}
+use Rattle.std.specs.Prelude.{Option, Some, None, slice_index_or}
 use lib.ListN.{length, get_or}
 use Rattle.reply.specs.Bytes.{Bytes}
 use Rattle.tree.specs.Tree.{Tree, label_at, Child}
 use Rattle.tree.proofs.Order.{child_node}
 use Rattle.roll.specs.Roll.{nodes, Roll}
-use Rattle.roll.proofs.Deciding.{roll_in_order, roll_most}
+use Rattle.roll.proofs.Deciding.{roll_in_order}
 use Rattle.query.specs.Syntax.{Filter}
 use Rattle.query.specs.Meaning.{holds}
 use Rattle.query.specs.Table.{Entries, entries, filter_at}
@@ -23,7 +24,7 @@ use Rattle.visible.specs.Index.{HasPair, FirstNamed, Row, none, at, Indexed}
 use Rattle.visible.specs.Answers.{AllAnswered}
 use Rattle.visible.specs.Shown as told
 use Rattle.visible.specs.Shown.{row_of, Shown, answered, inherited}
-use Rattle.visible.proofs.Indexing.{first_itself, pair_one}
+use Rattle.visible.proofs.Indexing.{none_some, some_one, first_itself, pair_one}
 
 -- what is a member of a list that a function made stands somewhere in it
 mapped_at : {A B : Type 0} (f : A → B) (d : A) (l : List A) {b : B} → Memᴰ b (map f l)
@@ -59,14 +60,14 @@ module _ (es : Entries) (annotation : Bytes) {p c : ℕ} where
       (r, l, record { parent = λ i. (sym e i).parent; child = λ i. (sym e i).child }, λ i. (e i).filter)
 
 -- what the index of the annotation says of the pair of p and its child i
-abbrev RowOf : Bytes → Tree → ℕ → ℕ → ℕ → Type 0
+abbrev RowOf : Bytes → Tree → ℕ → ℕ → Option ℕ → Type 0
 RowOf annotation t p i v = Row annotation (length (records annotation)) (label_at t p) (label_at t i) v
 
 -- a filter of the annotation rules that pair
 abbrev RuledBy : List Rule → Tree → ℕ → ℕ → Filter → Type 0
 RuledBy given t p i f = Ruled given (label_at t p) (label_at t i) f
 
-module _ {roll annotation filters : Bytes} {index answers : List ℕ} (r : Roll roll) (a : Annotated annotation filters)
+module _ {roll annotation filters : Bytes} {index : List (Option ℕ)} {answers : List (List ℕ)} (r : Roll roll) (a : Annotated annotation filters)
     (indexed : Indexed annotation index) (answer : AllAnswered roll annotation filters answers) where
   abbrev t : Tree
   t = nodes roll
@@ -78,25 +79,24 @@ module _ {roll annotation filters : Bytes} {index answers : List ℕ} (r : Roll 
   pair_row : {p i : ℕ} → Child t p i → RowOf annotation t p i (row_of t index p i)
   pair_row {p} {i} c = indexed.row _ _ (r.node p (child_node t (roll_in_order r) c)).label (r.node i c.node).label
 
-  -- a row that is 0: no filter rules the pair
-  unruled : {p c v : ℕ} → v ≡ 0 → Row annotation (length (records annotation)) p c v → (f : Filter) → ¬ Ruled given p c f
+  -- where there is no row, no filter rules the pair
+  unruled : {p c : ℕ} {v : Option ℕ} → v ≡ None → Row annotation (length (records annotation)) p c v → (f : Filter) → ¬ Ruled given p c f
   unruled e (none not_there) f m = let (s, l, x, same) = ruled_has (entries filters) annotation m in not_there s l x
-  unruled e (at l x named) f m = absurd (omega arith)
+  unruled e (at l x named) f m = none_some (sym e)
 
-  -- any other leads to a record that answers for the pair's
-  led : {p c v s : ℕ} → v ≡ suc s → Row annotation (length (records annotation)) p c v
+  -- any row leads to a record that answers for the pair's
+  led : {p c s : ℕ} {v : Option ℕ} → v ≡ Some s → Row annotation (length (records annotation)) p c v
       → (q : ℕ) × (q < length (records annotation)) × HasPair annotation p c q × FirstNamed annotation q s
-  led e (none not_there) = absurd (omega arith)
-  led {s = s} e (at {r = q} {s = k} l x named) = let same : k ≡ s = omega arith in (q, l, x, rw same at named)
+  led e (none not_there) = absurd (none_some e)
+  led {s = s} e (at {r = q} {s = k} l x named) = let same : k ≡ s = some_one e in (q, l, x, rw same at named)
 
   -- the first record that names a filter answers for every record that names it
   answers_for : {q s p i : ℕ} → q < length (records annotation) → FirstNamed annotation q s → Child t p i
-      → In answers (4096 * s + i) ↔ holds t (filter_at (entries filters) (record_at (records annotation) q).filter) i
+      → In (slice_index_or answers s []) i ↔ holds t (filter_at (entries filters) (record_at (records annotation) q).filter) i
   answers_for {q} {s} {p} {i} l named c =
       let node = c.node in
-      let low : i < 4096 = omega (arith, roll_most r) in
       let known = named.known in
-      let told = answer.answer s i (omega arith) (first_itself named) low in (
+      let told = (answer.answer s (omega arith) (first_itself named)).exact i in (
         λ m. rw named.same at (told.0 m).filter,
         λ h. told.1 (record { node = node; filter = rw named.same h }),
       )
@@ -110,7 +110,7 @@ module _ {roll annotation filters : Bytes} {index answers : List ℕ} (r : Roll 
   to_visible (inherited c e s) = inherits c (unruled e (pair_row c)) (to_visible s)
 
   -- a node whose pair has a record is answered for by that record
-  ruled_shown : {p i v : ℕ} {f : Filter} → Child t p i → row_of t index p i ≡ v → RowOf annotation t p i v
+  ruled_shown : {p i : ℕ} {v : Option ℕ} {f : Filter} → Child t p i → row_of t index p i ≡ v → RowOf annotation t p i v
       → RuledBy given t p i f → holds t f i → Shown t index answers i
   ruled_shown c e (none not_there) m h = let (s, l, x, same) = ruled_has (entries filters) annotation m in absurd (not_there s l x)
   ruled_shown c e (at {r = q} k y named) m h =
@@ -119,7 +119,7 @@ module _ {roll annotation filters : Bytes} {index answers : List ℕ} (r : Roll 
       answered c e ((answers_for k named c).1 (rw (← one, ← same) h))
 
   -- one whose pair has none is shown as its parent is
-  unruled_shown : {p i v : ℕ} → Child t p i → row_of t index p i ≡ v → RowOf annotation t p i v
+  unruled_shown : {p i : ℕ} {v : Option ℕ} → Child t p i → row_of t index p i ≡ v → RowOf annotation t p i v
       → ((f : Filter) → ¬ RuledBy given t p i f) → Shown t index answers p → Shown t index answers i
   unruled_shown c e (none not_there) free s = inherited c e s
   unruled_shown c e (at l x named) free s = absurd (free _ (has_ruled (entries filters) annotation l x))

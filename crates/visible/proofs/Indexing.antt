@@ -2,12 +2,12 @@
 use Prim.Native.Nat.{ℕ, zero, suc, ◌+◌, ◌≤◌, ◌<◌}
 use native.Mathlib.Nat.{le_refl, eq-or-lt_of_le, le_of_suc-le-suc}
 use native.Mathlib.Decide.{ℕ_discrete}
-use native.Mathlib.Numerals.{add-one}
 use native.Mathlib.Omega.{arith}
 use mathlib.Core.Path.{◌≡◌, refl, sym, ap₂, ◌∙◌}
 use mathlib.Core.Logic.{⊎_elim}
 use mathlib.Core.List.{List}
-use lib.ListN.{length, get_or, set}
+use lib.ListN.{length, get_or, set, replicate}
+use Rattle.std.specs.Prelude.{Option, Some, None}
 use lib.Seq.{get_or-set_same, get_or-set_other}
 use borrow.Author.Count.{below_more}
 use Rattle.reply.specs.Bytes.{Bytes}
@@ -22,27 +22,40 @@ use Rattle.visible.specs.Index.{pair_of, HasPair, FirstNamed, Row, none, at, Ind
 pair_apart : {p q c d : ℕ} → Label c → Label d → pair_of p c ≡ pair_of q d → (p ≡ q) × (c ≡ d)
 pair_apart l m e = (omega arith, omega arith)
 
+-- nothing is something, and what is there is one
+pub none_some : {s : ℕ} → ¬ (None ≡ Some s)
+none_some e = cc
+
+pub some_one : {r s : ℕ} → Some r ≡ Some s → r ≡ s
+some_one e = cc
+
+-- a list of nothing
+blanks : (n j : ℕ) → ◌≡◌ {A = Option ℕ} (get_or (replicate n None) j None) None
+blanks zero j = refl
+blanks (suc n) zero = refl
+blanks (suc n) (suc j) = blanks n j
+
 module _ {annotation : Bytes} where
   -- the first record that names a filter is the first that names its own
   pub first_itself : {r s : ℕ} → FirstNamed annotation r s → FirstNamed annotation s s
   first_itself {r} {s} named = record { known = le_refl s; same = refl; first = λ k l e. named.first k l (e ∙ named.same) }
 
   -- with no record passed, no pair has one
-  pub index_none : {index : List ℕ} → ((k : ℕ) → get_or index k 0 ≡ 0) → IndexTo annotation 0 index
-  index_none empty = record {
-    row = λ p c l m. rw (empty (pair_of p c)) (none (λ r h. absurd (omega arith)));
-    most = λ k. omega (arith, empty k);
+  pub index_none : (size : ℕ) → IndexTo annotation 0 (replicate size None)
+  index_none size = record {
+    row = λ p c l m. rw (blanks size (pair_of p c)) (none (λ r h. absurd (omega arith)));
+    most = λ k r e. absurd (none_some (sym (blanks size k) ∙ e));
   }
 
   -- record r is put at the place of its pair
-  pub index_more : {index : List ℕ} {p c r s : ℕ} → length index ≡ 4225 → Label p → Label c → HasPair annotation p c r
-      → FirstNamed annotation r s → IndexTo annotation r index → IndexTo annotation (r + 1) (set index (pair_of p c) (s + 1))
+  pub index_more : {index : List (Option ℕ)} {p c r s : ℕ} → length index ≡ 4225 → Label p → Label c → HasPair annotation p c r
+      → FirstNamed annotation r s → IndexTo annotation r index → IndexTo annotation (r + 1) (set index (pair_of p c) (Some s))
   index_more {index} {p} {c} {r} {s} size l m has named so_far = record {
     row = λ q d k n. row q d k n (ℕ_discrete (pair_of q d) (pair_of p c));
-    most = λ k. most k (ℕ_discrete k (pair_of p c));
+    most = λ k q e. most k q e (ℕ_discrete k (pair_of p c));
   }
     where
-      later : {q d v : ℕ} → ¬ HasPair annotation q d r → Row annotation r q d v → Row annotation (r + 1) q d v
+      later : {q d : ℕ} {v : Option ℕ} → ¬ HasPair annotation q d r → Row annotation r q d v → Row annotation (r + 1) q d v
       later not_r (none f) = none (below_more (λ (s : ℕ). ¬ HasPair annotation _ _ s) r f not_r)
       later not_r (at {r = q} h x f) = at {r = q} (omega arith) x f
 
@@ -50,16 +63,18 @@ module _ {annotation : Bytes} where
       another apart x = apart (ap₂ pair_of (sym x.parent ∙ has.parent) (sym x.child ∙ has.child))
 
       row : (q d : ℕ) → Label q → Label d → Dec (pair_of q d ≡ pair_of p c)
-          → Row annotation (r + 1) q d (get_or (set index (pair_of p c) (s + 1)) (pair_of q d) 0)
+          → Row annotation (r + 1) q d (get_or (set index (pair_of p c) (Some s)) (pair_of q d) None)
       row q d k n (yes e) =
           let (e', f) = pair_apart n m e in
-          rw (e, get_or-set_same index (pair_of p c) (s + 1) 0 (omega arith), add-one s) (at {r = r} (omega arith) (rw (e', f) has) named)
+          rw (e, get_or-set_same index (pair_of p c) (Some s) None (omega arith)) (at {r = r} (omega arith) (rw (e', f) has) named)
       row q d k n (no apart) =
-          rw (get_or-set_other index (pair_of p c) (pair_of q d) (s + 1) 0 apart) (later (another apart) (so_far.row q d k n))
+          rw (get_or-set_other index (pair_of p c) (pair_of q d) (Some s) None apart) (later (another apart) (so_far.row q d k n))
 
-      most : (k : ℕ) → Dec (k ≡ pair_of p c) → get_or (set index (pair_of p c) (s + 1)) k 0 ≤ r + 1
-      most k (yes e) = rw (e, get_or-set_same index (pair_of p c) (s + 1) 0 (omega arith)) (omega (arith, named.known))
-      most k (no n) = rw (get_or-set_other index (pair_of p c) k (s + 1) 0 n) (omega (arith, so_far.most k))
+      most : (k q : ℕ) → get_or (set index (pair_of p c) (Some s)) k None ≡ Some q → Dec (k ≡ pair_of p c) → q < r + 1
+      most k q is (yes e) =
+          let same : s ≡ q = some_one (rw (e, get_or-set_same index (pair_of p c) (Some s) None (omega arith)) at is) in
+          omega (arith, named.known)
+      most k q is (no n) = omega (arith, so_far.most k q (rw (get_or-set_other index (pair_of p c) k (Some s) None n) at is))
 
   module _ {es : Entries} (a : Annotation es annotation) where
     -- the records of an annotation name labels

@@ -1,5 +1,5 @@
 -- The index of an annotation: for each pair of labels the record that answers for it.
-use Rattle.std.specs.Prelude.{ℕ, suc, ◌+◌, ◌*◌, ◌≤◌, ◌<◌, ◌≡◌, List, length, get_or}
+use Rattle.std.specs.Prelude.{ℕ, ◌+◌, ◌*◌, ◌≤◌, ◌<◌, ◌≡◌, List, length, slice_index_or, Option, Some, None}
 use Rattle.reply.specs.Bytes.{Bytes}
 use Rattle.tree.specs.Tree.{Label}
 use Rattle.view.specs.Annotation.{records, record_at}
@@ -19,18 +19,18 @@ pub record FirstNamed (annotation : Bytes) (r s : ℕ) : Type 0 where
   pub same : (record_at (records annotation) s).filter ≡ (record_at (records annotation) r).filter
   pub first : (k : ℕ) → k < s → ¬ ((record_at (records annotation) k).filter ≡ (record_at (records annotation) r).filter)
 
--- What the index says of a pair, where the first n records are in it: 0 for no record, else one more than the first record that names
--- the filter of the pair's record.
-pub data Row (annotation : Bytes) (n parent child : ℕ) : ℕ → Type 0 where
-  none : ((r : ℕ) → r < n → ¬ HasPair annotation parent child r) → Row annotation n parent child 0
-  at : {r s : ℕ} → r < n → HasPair annotation parent child r → FirstNamed annotation r s → Row annotation n parent child (suc s)
+-- What the index says of a pair, where the first n records are in it: nothing for no record, else the first record that names the filter
+-- of the pair's record.
+pub data Row (annotation : Bytes) (n parent child : ℕ) : Option ℕ → Type 0 where
+  none : ((r : ℕ) → r < n → ¬ HasPair annotation parent child r) → Row annotation n parent child None
+  at : {r s : ℕ} → r < n → HasPair annotation parent child r → FirstNamed annotation r s → Row annotation n parent child (Some s)
 
-pub record IndexTo (annotation : Bytes) (n : ℕ) (index : List ℕ) : Type 0 where
-  pub row : (parent child : ℕ) → Label parent → Label child → Row annotation n parent child (get_or index (pair_of parent child) 0)
-  pub most : (k : ℕ) → get_or index k 0 ≤ n
+pub record IndexTo (annotation : Bytes) (n : ℕ) (index : List (Option ℕ)) : Type 0 where
+  pub row : (parent child : ℕ) → Label parent → Label child → Row annotation n parent child (slice_index_or index (pair_of parent child) None)
+  pub most : (k r : ℕ) → slice_index_or index k None ≡ Some r → r < n
 
 -- all records are in it
-abbrev pub Indexed : Bytes → List ℕ → Type 0
+abbrev pub Indexed : Bytes → List (Option ℕ) → Type 0
 Indexed annotation index = IndexTo annotation (length (records annotation)) index
 
 -- the pair of every record is one of labels

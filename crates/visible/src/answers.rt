@@ -1,9 +1,13 @@
 // The answers of the records' filters on the whole roll.
-ghost use Rattle.std.specs.Prelude.{◌+◌, ◌<◌, length};
-ghost use Rattle.view.specs.Annotation.{records};
+ghost use Rattle.std.specs.Prelude.{◌<◌, length};
+ghost use Rattle.roll.specs.Roll.{nodes};
+ghost use Rattle.query.specs.Kind.{filter};
+ghost use Rattle.query.specs.Meaning.{holds};
+ghost use Rattle.query.specs.Table.{entries, filter_at};
+ghost use Rattle.sets.specs.Sets.{Holds};
 ghost use Rattle.view.specs.Promise.{Annotated};
-ghost use Rattle.evaluator.specs.Evaluator.{Grounds};
-ghost use Rattle.visible.specs.Answers.{AnswersTo, AllAnswered, Stored};
+ghost use Rattle.evaluator.specs.Evaluator.{Grounds, Within};
+ghost use Rattle.visible.specs.Answers.{AllAnswered};
 
 use crate::index::first_named;
 use checks::{count as records_of, record_at};
@@ -12,66 +16,31 @@ use roll::count;
 use sets::{below, empty};
 use tables::count as entries_of;
 
-// Puts a set into the words of record r.
-fn store(answers: &mut [u64; 2048], r: usize, set: [u64; 64])
-    requires { r < 32 }
-    ensures { Stored r 64 set answers.old answers.new }
+// All nodes where the filter of entry f holds.
+fn nodes_where(roll: &[u8], filters: &[u8], links: &[u16; 8192], f: usize) -> [u64; 64]
+    requires { Grounds roll.now filters.now links.now × Within filters.now filter f }
+    ensures { Holds (λ i. (i < length (nodes roll.now)) × holds (nodes roll.now) (filter_at (entries filters.now) f) i) result }
 {
-    let words: &mut [u64] = answers;
-    let mut w = 0;
-    while w < 64 {
-        words[64 * r + w] = set[w];
-        w += 1;
-    }
+    let all = below(count(roll));
+    narrow(roll, links, filters, &empty(), entries_of(filters), f, all)
 }
 
-// Answers record r, where it is the first to name its filter: the filter is asked of all nodes.
-fn answer_record(
-    roll: &[u8],
-    annotation: &[u8],
-    filters: &[u8],
-    links: &[u16; 8192],
-    r: usize,
-    answers: &mut [u64; 2048],
-)
-    requires grounds { Grounds roll.now filters.now links.now × Annotated annotation.now filters.now }
-    requires r_in_bounds { r < length (records annotation.now) }
-    requires answers_to { AnswersTo roll.now annotation.now filters.now r answers.old }
-    ensures { AnswersTo roll.now annotation.now filters.now (r + 1) answers.new }
-{
-    if first_named(annotation, r) == r {
-        let own = record_at(annotation, r);
-        let all = below(count(roll));
-        let none = empty();
-        let held = narrow(
-            roll,
-            links,
-            filters,
-            &none,
-            entries_of(filters),
-            own.filter,
-            all,
-        );
-        store(answers, r, held);
-    }
-}
-
-// Answers the records: each filter that one of them names is asked once.
+// Answers the records: each filter that one of them names is asked once, for the first record that names it.
 pub(crate) fn answer(
     roll: &[u8],
     annotation: &[u8],
     filters: &[u8],
     links: &[u16; 8192],
-) -> [u64; 2048]
+) -> [[u64; 64]; 32]
     requires { Grounds roll.now filters.now links.now × Annotated annotation.now filters.now }
     ensures { AllAnswered roll.now annotation.now filters.now result }
 {
-    let n = records_of(annotation);
-    let mut answers = [0u64; 2048];
-    let mut r = 0;
-    while r < n {
-        answer_record(roll, annotation, filters, links, r, &mut answers);
-        r += 1;
+    let mut answers = [empty(); 32];
+    for r in 0..records_of(annotation) {
+        if first_named(annotation, r) == r {
+            let own = record_at(annotation, r);
+            answers[r] = nodes_where(roll, filters, links, own.filter);
+        }
     }
     answers
 }

@@ -1,5 +1,5 @@
 // An annotation's records by their pairs, so that a node's pair is looked up at once. Records that name one filter share its answer.
-ghost use Rattle.std.specs.Prelude.{◌≡◌, ◌≤◌, length, get_or};
+ghost use Rattle.std.specs.Prelude.{◌≡◌, ◌≤◌, length, slice_index_or};
 ghost use Rattle.tree.specs.Tree.{Label};
 ghost use Rattle.view.specs.Annotation.{records};
 ghost use Rattle.visible.specs.Index.{pair_of, FirstNamed, Indexed, Labelled};
@@ -19,38 +19,32 @@ pub(crate) fn first_named(annotation: &[u8], r: usize) -> usize
     ensures { FirstNamed annotation.now r result }
 {
     let wanted = record_at(annotation, r).filter;
-    let mut s = 0;
-    while s < r {
+    for s in 0..r {
         if record_at(annotation, s).filter == wanted {
             return s;
         }
-        s += 1;
     }
     r
 }
 
 // The index of an annotation.
-pub(crate) fn index_of(annotation: &[u8]) -> [u8; 4225]
+pub(crate) fn index_of(annotation: &[u8]) -> [Option<u8>; 4225]
     requires { Labelled annotation.now × (length (records annotation.now) ≤ 32) }
     ensures { Indexed annotation.now result }
 {
-    let mut index = [0u8; 4225];
-    let n = count(annotation);
-    let mut r = 0;
-    while r < n {
+    let mut index = [None; 4225];
+    for r in 0..count(annotation) {
         let own = record_at(annotation, r);
-        let at = pair_of(own.parent, own.child);
-        index[at] = (first_named(annotation, r) + 1) as u8;
-        r += 1;
+        index[pair_of(own.parent, own.child)] = Some(first_named(annotation, r) as u8);
     }
     index
 }
 
 // What the index says of a pair.
-pub(crate) fn row_of(index: &[u8; 4225], parent: usize, child: usize) -> usize
+pub(crate) fn row_of(index: &[Option<u8>; 4225], parent: usize, child: usize) -> Option<usize>
     requires { Label parent × Label child }
-    ensures { result ≡ get_or index.now (pair_of parent child) 0 }
+    ensures { result ≡ slice_index_or index.now (pair_of parent child) None }
 {
-    let rows: &[u8] = index;
-    rows[pair_of(parent, child)] as usize
+    let row = index[pair_of(parent, child)]?;
+    Some(usize::from(row))
 }

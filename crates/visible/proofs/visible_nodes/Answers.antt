@@ -1,5 +1,5 @@
 -- `visible_nodes`: links, answers and index are what the pass over the nodes rests on.
-use native.Mathlib.Nat.{le_trans}
+use native.Mathlib.Omega.{arith}
 use Rattle.visible.proofs.Indexing.{annotation_labelled, records_most}
 use Rattle.visible.proofs.Deciding.{shown_visible}
 use Rattle.visible.proofs.visible_nodes.Goals as goal
@@ -17,7 +17,7 @@ index_of-index-requires c =
 pub shown-requires : goal.shown-requires
 shown-requires c =
     let (right, annotated) = c.requires in
-    (right, λ k. le_trans (c.index_of-index.ensures.most k) (records_most annotated.records))
+    (right, λ k r e. omega (arith, c.index_of-index.ensures.most k r e, records_most annotated.records))
 
 pub returns : goal.returns
 returns c =

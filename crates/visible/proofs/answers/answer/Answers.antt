@@ -1,23 +1,44 @@
--- `answer`. The loop's invariant: the records passed are answered. The measure is the number of
--- records that are left.
+-- `answer`. The loop's invariant: the records passed are answered.
+use Prim.Native.Nat.{ℕ, ◌<◌}
 use native.Mathlib.Omega.{arith}
-use mathlib.Core.Path.{◌≡◌}
-use lib.ListN.{length}
-use Rattle.view.specs.Annotation.{records}
-use Rattle.visible.proofs.Answering.{answers_none}
+use mathlib.Core.List.{List}
+use lib.ListN.{length-set, length-replicate}
+use Rattle.visible.proofs.Indexing.{records_most}
+use Rattle.visible.proofs.Answering.{answers_none, answers_same, answers_more}
 use Rattle.visible.proofs.answers.answer.Goals as goal
+use Rattle.visible.proofs.answers.answer.Goals.{After-first_named, then-first_named-r, else-first_named-r}
+
+-- a record is one of 32
+low : (c : After-first_named) → c.loop-r.r < 32
+low c = omega (arith, records_most c.requires.1.records)
 
 pub loop-r-init : goal.loop-r-init
-loop-r-init c = (omega arith, answers_none)
+loop-r-init c = record { size = length-replicate {A = List ℕ} 32 c.empty-answers.result; so_far = answers_none }
 
-pub answer_record-requires : goal.answer_record-requires
-answer_record-requires c =
-    record { grounds = c.requires; r_in_bounds = omega arith; answers_to = c.loop-r.invariant.1 }
+pub offset_bounds-answers-r : goal.offset_bounds-answers-r
+offset_bounds-answers-r c = omega (arith, low (goal.at.offset_bounds-answers-r c).After-first_named)
+
+pub bounds-answers-r : goal.bounds-answers-r
+bounds-answers-r c = low (goal.at.bounds-answers-r c).After-first_named
+
+pub nodes_where-requires : goal.nodes_where-requires
+nodes_where-requires c =
+    let (grounds, annotated) = c.requires in
+    let form = (annotated.records.each c.loop-r.r (omega arith)).form in
+    let own = c.record_at-own.ensures.filter in
+    (grounds, record { within = rw own form.named; sort = rw own form.filter })
 
 pub loop-r-preserved : goal.loop-r-preserved
-loop-r-preserved c = (omega arith, c.answer_record.ensures)
-
-pub returns : goal.returns
-returns c =
-    let last : c.loop-r.r ≡ length (records c.args.annotation.now) = omega arith in
-    rw last at c.loop-r.invariant.1
+loop-r-preserved c =
+    let size = c.loop-r.invariant.size in
+    let so_far = c.loop-r.invariant.so_far in
+    let small = low (goal.at.loop-r-preserved c).After-first_named in
+    elim c.if-first_named-r.branch [
+      | then-first_named-r w ↦
+          rw w.answers-is (record {
+            size = simp length-set size;
+            so_far = answers_more (omega arith) (rw w.record_at-own.ensures.filter at w.nodes_where.ensures) so_far;
+          })
+      | else-first_named-r w ↦
+          rw w.answers-is (record { size = size; so_far = answers_same c.first_named.ensures w.if-first_named-r.false so_far })
+    ]

@@ -1,31 +1,24 @@
--- `first_named`. The loop's invariant: no record passed names the filter. The measure is the number of
--- records that are left.
+-- `first_named`. The loop's invariant: no record passed names the filter.
 use native.Mathlib.Nat.{le_refl}
 use native.Mathlib.Omega.{arith}
 use mathlib.Core.Path.{refl, sym, ◌∙◌}
 use borrow.Author.Count.{below_more}
 use Rattle.visible.proofs.index.first_named.Goals as goal
 
-pub loop-s-init : goal.loop-s-init
-loop-s-init c = (omega arith, λ k l. absurd (omega arith))
-
 pub returns-then-record_at-wanted : goal.returns-then-record_at-wanted
 returns-then-record_at-wanted c =
     let own = c.record_at-wanted.ensures.filter in
-    let (within, others) = c.loop-s.invariant in
     record {
-      known = within;
+      known = omega arith;
       same = sym c.record_at.ensures.filter ∙ c.if-record_at-wanted.true ∙ own;
-      first = λ k l e. others k l (e ∙ sym own);
+      first = λ k l e. c.loop-s.invariant k l (e ∙ sym own);
     }
 
 pub loop-s-preserved : goal.loop-s-preserved
-loop-s-preserved c = (
-  omega arith,
-  below_more _ _ c.loop-s.invariant.1 (λ e. c.if-record_at-wanted.false (c.record_at.ensures.filter ∙ e)),
-)
+loop-s-preserved c =
+    below_more _ _ c.loop-s.invariant (λ e. c.if-record_at-wanted.false (c.record_at.ensures.filter ∙ e))
 
 pub returns : goal.returns
 returns c =
     let own = c.record_at-wanted.ensures.filter in
-    record { known = le_refl _; same = refl; first = λ k l e. c.loop-s.invariant.1 k (omega arith) (e ∙ sym own) }
+    record { known = le_refl _; same = refl; first = λ k l e. c.loop-s.invariant k (omega arith) (e ∙ sym own) }

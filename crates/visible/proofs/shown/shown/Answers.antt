@@ -1,5 +1,4 @@
--- `shown`. The loop's invariant: of the nodes passed, the set has those that are shown. The measure is
--- the number of nodes that are left.
+-- `shown`. The loop's invariant: of the nodes passed, the set has those that are shown.
 use native.Mathlib.Omega.{arith}
 use mathlib.Core.Path.{◌≡◌, sym, subst}
 use lib.Dec.{T}
@@ -11,29 +10,20 @@ use Rattle.visible.proofs.shown.shown.Goals as goal
 use Rattle.visible.proofs.shown.shown.Goals.{then-is_shown, else-is_shown}
 
 pub loop-i-init : goal.loop-i-init
-loop-i-init c = (omega arith, none_gathered c.empty-set.ensures)
-
-pub is_shown-requires : goal.is_shown-requires
-is_shown-requires c =
-    record { roll = c.requires; i_in_bounds = omega arith; shown_to = c.loop-i.invariant.1 }
+loop-i-init c = none_gathered c.empty-set.ensures
 
 pub add-requires : goal.add-requires
-add-requires c =
-    let most = roll_most c.requires.0 in
-    omega arith
+add-requires c = omega (arith, roll_most c.requires.0)
 
 pub loop-i-preserved : goal.loop-i-preserved
 loop-i-preserved c =
-    let so_far = c.loop-i.invariant.1 in
-    let told = c.is_shown.ensures in (
-      omega arith,
-      elim c.if-is_shown.branch [
-        | then-is_shown w ↦ rw w.set-is (one_gathered so_far (told.0 (subst T (sym w.if-is_shown.true) tt)) w.add.ensures)
-        | else-is_shown w ↦ rw w.set-is (none_more so_far (λ s. subst T w.if-is_shown.false (told.1 s)))
-      ],
-    )
+    let told = c.is_shown.ensures in
+    elim c.if-is_shown.branch [
+      | then-is_shown w ↦ rw w.set-is (one_gathered c.loop-i.invariant (told.0 (subst T (sym w.if-is_shown.true) tt)) w.add.ensures)
+      | else-is_shown w ↦ rw w.set-is (none_more c.loop-i.invariant (λ s. subst T w.if-is_shown.false (told.1 s)))
+    ]
 
 pub returns : goal.returns
 returns c =
     let last : c.loop-i.i ≡ length (nodes c.args.roll.now) = omega arith in
-    all_shown _ _ _ (roll_root c.requires.0) (rw last at c.loop-i.invariant.1)
+    all_shown _ _ _ (roll_root c.requires.0) (rw last at c.loop-i.invariant)
