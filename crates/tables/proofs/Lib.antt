@@ -4,3 +4,4 @@ pub mod Deciding
 pub mod Heights
 pub mod Walk
 pub mod Outcomes
+pub mod Found
