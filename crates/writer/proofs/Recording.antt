@@ -2,7 +2,7 @@
 use Prim.Native.Nat.{ℕ, suc, ◌+◌, ◌-◌, ◌*◌, ◌≤◌, ◌<◌}
 use native.Mathlib.Nat.{le_refl}
 use native.Mathlib.Omega.{arith}
-use mathlib.Core.Path.{◌≡◌, refl, ap, ◌∙◌, subst}
+use mathlib.Core.Path.{◌≡◌, refl, ap, ◌∙◌}
 use mathlib.Core.List.{List, ◌∷◌, ◌++◌, map}
 use lib.ListN.{length, drop, length-append, length-drop, length-map}
 use lib.Seq.{drop-cons, drop-length}
@@ -14,20 +14,19 @@ use Rattle.view.specs.Annotation.{AnnotationRecord, record_at}
 use Rattle.written.specs.Written.{raise, opening, nine_entries, record_entries, records_entries, axis_rows, prelude, prelude_size, view_entry, written}
 use Rattle.written.proofs.Table.{records_many, prelude_size_lem}
 use Rattle.tables.specs.Laid.{laid}
-use Rattle.writer.proofs.Laying.{laid_more, laid_same}
+use Rattle.writer.proofs.Laying.{laid_more}
 
 -- The records from i on are written behind the opening, up to entry `at`.
 pub record Recorded (start : Bytes) (first : ℕ) (rs : List AnnotationRecord) (now : Bytes) (at i : ℕ) : Type 0 where
   pub inside : i ≤ length rs
   pub place : at ≡ 3 + 9 * (length rs - i)
-  pub same : length now ≡ length start
   pub bytes : now ≡ laid start 3 (records_entries first (drop i rs))
 
 module _ {start : Bytes} {first : ℕ} {rs : List AnnotationRecord} where
   -- at first there are none
   pub none_recorded : {n : ℕ} → n ≡ length rs → Recorded start first rs start 3 n
   unfolding records_entries entry_bytes
-  none_recorded e = rw e (record { inside = le_refl _; place = omega arith; same = refl; bytes = rw (drop-length rs) refl })
+  none_recorded e = rw e (record { inside = le_refl _; place = omega arith; bytes = rw (drop-length rs) refl })
 
   -- then one more
   pub one_recorded : {now next : Bytes} {at i : ℕ} {own : Record} → 0 < i → Fields (record_at rs (i - 1)) own
@@ -51,14 +50,7 @@ module _ {start : Bytes} {first : ℕ} {rs : List AnnotationRecord} where
       rw (number, fields.parent, fields.child, fields.filter) refl in
       let all : next ≡ laid start 3 (records_entries first (drop (i - 1) rs)) =
       rw (left, ← same) (laid_more start 3 (records_entries first more) _ before.bytes (omega arith) after) in
-      record { inside = omega arith; place = omega arith; same = laid_same start 3 _ all; bytes = all }
-
-  -- in the end all are written
-  pub all_recorded : {now : Bytes} {at i : ℕ} → i ≤ 0 → Recorded start first rs now at i
-      → (at ≡ 3 + 9 * length rs) × (now ≡ laid start 3 (records_entries first rs))
-  all_recorded {now} {i = i} end all =
-      let none : i ≡ 0 = omega arith in
-      (omega (arith, all.place), subst (λ (k : ℕ). now ≡ laid start 3 (records_entries first (drop k rs))) none all.bytes)
+      record { inside = omega arith; place = omega arith; bytes = all }
 
 -- the opening, the records and the rows, one behind the other
 pub prelude_laid : (start : Bytes) (first : ℕ) (rs : List AnnotationRecord) {opened recorded now : Bytes} {at : ℕ}

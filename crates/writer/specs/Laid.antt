@@ -1,13 +1,11 @@
--- What the writer must be given, and what it chooses for an entry. Nothing here has to be believed: call 5's promise is stated without it.
-use Rattle.std.specs.Prelude.{ℕ, ◌+◌, ◌*◌, ◌≤◌, ◌<◌, ◌≡◌, length}
+-- What the writer must be given, and what an entry that it writes is. Nothing here has to be believed: call 5's promise is stated without it.
+use Rattle.std.specs.Prelude.{ℕ, ◌+◌, ◌*◌, ◌≤◌, ◌<◌, length}
 use Rattle.reply.specs.Bytes.{Bytes}
 use Rattle.query.specs.Table.{Entry}
 use Rattle.view.specs.Annotation.{records, record_at}
-use Rattle.written.specs.Written.{raise, axis_row, chosen}
 use Rattle.tables.specs.Laid.{fields}
-use Rattle.writer.specs.declared.records.Fields.{Fields}
-use Rattle.writer.specs.declared.moved.StandIn.{StandIn}
-use Rattle.writer.specs.declared.moved.StandIn.TheVariants.{CopyOf, Itself}
+use Rattle.tables.specs.Kind.{number}
+use Rattle.writer.specs.declared.entry.Entry as writer
 
 -- There is room for so many entries behind n others.
 pub record Room (out : Bytes) (n many : ℕ) : Type 0 where
@@ -32,11 +30,10 @@ LabelBytes annotation =
     (i : ℕ) → i < length (records annotation)
     → ByteFields (record_at (records annotation) i).parent (record_at (records annotation) i).child
 
--- an entry by the struct of its fields
-abbrev pub as_entry : Fields → Entry
-as_entry own = fields own.0 own.1 own.2 own.3
+-- the entry that is to be written
+abbrev pub as_entry : writer.Entry → Entry
+as_entry own = fields (number own.kind) own.label own.left own.right
 
--- What stands for an entry of a kind, whichever entry it is and wherever the rows stand.
-abbrev pub StandsFor : ℕ → StandIn → Type 0
-StandsFor kind (CopyOf k) = (k < 56) × ((axes : ℕ) (own : Entry) → raise axes (axis_row k) ≡ chosen axes own kind)
-StandsFor kind Itself = (axes : ℕ) (own : Entry) → own ≡ chosen axes own kind
+-- its operands are numbers of two bytes
+abbrev pub SmallOperands : writer.Entry → Type 0
+SmallOperands own = Short own.left × Short own.right

@@ -1,14 +1,23 @@
-// An entry whose operands stand elsewhere is written.
-ghost use Rattle.std.specs.Prelude.{◌≡◌, [], ◌∷◌, ◌+◌};
-ghost use Rattle.written.specs.Written.{moved, raise};
+// An entry that is to be written, and the same with its operands elsewhere.
+ghost use Rattle.std.specs.Prelude.{◌≡◌, [], ◌∷◌, ◌+◌, map, length};
+ghost use Rattle.written.specs.Written.{entry, label_entry, moved, raise};
+ghost use Rattle.tables.specs.Kind.{number};
 ghost use Rattle.tables.specs.Shape.{operand};
-ghost use Rattle.tables.specs.Laid.{laid, fields};
-ghost use Rattle.writer.specs.Laid.{Room, Short};
+ghost use Rattle.tables.specs.Laid.{laid};
+ghost use Rattle.writer.specs.Laid.{Room, Short, SmallOperands, as_entry};
 
-use tables::{Sort, put, shape_of};
+use tables::{Kind, Sort, shape_of};
+
+#[derive(Clone, Copy)]
+pub(crate) struct Entry {
+    pub(crate) kind: Kind,
+    pub(crate) label: u8,
+    pub(crate) left: usize,
+    pub(crate) right: usize,
+}
 
 // An operand's number, raised by a distance where the field is used.
-fn raised(sort: Option<Sort>, number: usize, distance: usize) -> usize
+fn raised_operand(sort: Option<Sort>, number: usize, distance: usize) -> usize
     requires { Short number × Short distance }
     ensures { result ≡ moved (λ x. x + distance) (operand sort) number }
 {
@@ -18,22 +27,61 @@ fn raised(sort: Option<Sort>, number: usize, distance: usize) -> usize
     }
 }
 
-// Writes entry `at` of the part with its operands raised by a distance.
-pub fn put_raised(
-    out: &mut [u8],
-    at: usize,
-    kind: u8,
-    label: u8,
-    left: usize,
-    right: usize,
-    distance: usize,
-)
-    requires room { Room out.old at 1 }
-    requires short { (Short left × Short right) × Short distance }
-    ensures { out.new ≡ laid out.old at (raise distance (fields kind label left right) ∷ []) }
+impl Entry {
+    // An entry with operands.
+    pub(crate) fn of(kind: Kind, left: usize, right: usize) -> Entry
+        ensures { as_entry result ≡ entry (number kind) left right }
+    {
+        Entry {
+            kind,
+            label: 0,
+            left,
+            right,
+        }
+    }
+
+    // "label is the given one"
+    pub(crate) fn labelled(label: u8) -> Entry
+        ensures { as_entry result ≡ label_entry label }
+    {
+        Entry {
+            kind: Kind::Labelled,
+            label,
+            left: 0,
+            right: 0,
+        }
+    }
+
+    // The entry whose operands stand a distance further on.
+    pub(crate) fn raised(self, distance: usize) -> Entry
+        requires { SmallOperands self × Short distance }
+        ensures { as_entry result ≡ raise distance (as_entry self) }
+    {
+        let kind = u8::from(self.kind);
+        let shape = shape_of(usize::from(kind));
+        Entry {
+            left: raised_operand(shape.left, self.left, distance),
+            right: raised_operand(shape.right, self.right, distance),
+            ..self
+        }
+    }
+
+    // Writes it as entry `at` of the part.
+    pub(crate) fn put(self, out: &mut [u8], at: usize)
+        requires { Room out.old at 1 }
+        ensures { out.new ≡ laid out.old at (as_entry self ∷ []) }
+    {
+        let kind = u8::from(self.kind);
+        tables::put(out, at, kind, self.label, self.left, self.right);
+    }
+}
+
+// Writes entries one behind another, from entry `at` of the part on.
+pub(crate) fn put_all(out: &mut [u8], at: usize, entries: &[Entry])
+    requires { Room out.old at (length entries.now) }
+    ensures { out.new ≡ laid out.old at (map as_entry entries.now) }
 {
-    let shape = shape_of(usize::from(kind));
-    let new_left = raised(shape.left, left, distance);
-    let new_right = raised(shape.right, right, distance);
-    put(out, at, kind, label, new_left, new_right);
+    for (k, own) in entries.iter().enumerate() {
+        own.put(out, at + k);
+    }
 }

@@ -1,10 +1,7 @@
--- `write_records`. The loop's invariant: the records from i on are written. The measure is i.
+-- `write_records`. The loop's invariant: the records from i on are written.
 use Rattle.view.specs.Annotation.{records}
 use Rattle.writer.proofs.Recording.{Recorded}
 use Rattle.writer.proofs.records.write_records.Given as goal
 
 abbrev pub invariant-loop-i : goal.invariant-loop-i
 invariant-loop-i l = Recorded l.initial.out l.first (records l.annotation) l.out l.at l.i
-
-abbrev pub decreases-loop-i : goal.decreases-loop-i
-decreases-loop-i l = l.i

@@ -1,9 +1,7 @@
--- `row_at`: the constant table is compared once with the list of rows.
-use mathlib.Core.Path.{refl}
-use Rattle.written.specs.Written.{axis_rows}
-use Rattle.writer.proofs.RowTable.{table_right}
+-- `row_at`: the table has the row.
+use mathlib.Core.Path.{◌∙◌}
+use Rattle.writer.proofs.RowTable.{row_right}
 use Rattle.writer.proofs.rows.row_at.Goals as goal
 
-pub returns : goal.returns
-unfolding axis_rows
-returns c = table_right _ refl c.args.k
+pub returns-clause-value : goal.returns-clause-value
+returns-clause-value c = c.entry.ensures.value ∙ row_right c.args.k c.requires _

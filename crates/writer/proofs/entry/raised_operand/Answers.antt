@@ -1,7 +1,7 @@
--- `raised`: by cases on whether the field is used.
+-- `raised_operand`: by cases on whether the field is used.
 use mathlib.Core.Path.{refl}
 use Rattle.written.specs.Written.{moved}
-use Rattle.writer.proofs.entry.raised.Goals as goal
+use Rattle.writer.proofs.entry.raised_operand.Goals as goal
 
 pub returns-in-None : goal.returns-in-None
 unfolding moved
