@@ -5,7 +5,7 @@ use Prim.Native.Char.{code}
 use mathlib.Core.Path.{◌≡◌, refl, sym, ap, ◌∙◌}
 use mathlib.Core.Bool.{true}
 use mathlib.Core.List.{List, [], ◌∷◌, ◌++◌}
-use mathlib.Core.Option.{none, some}
+use mathlib.Core.Option.{some}
 use borrow.Author.Tests.{le-leb, lt-leb}
 use lib.ListN.{length, get_or, take}
 use Rattle.reply.specs.Bytes.{Bytes}
@@ -18,11 +18,12 @@ use Rattle.query.proofs.Rows.{Each, ◌&◌, no_more, row_found}
 use Rattle.query.proofs.Tables.{read_at}
 use Rattle.query.proofs.Standing as standing
 use Rattle.shortest.proofs.Shown.{path_rank, filter_rank, between, held, path_held, filter_held, label_shown, path_shown, filter_shown}
-use Rattle.std.specs.Prelude.{Option, Some, None, IsSome}
+use Rattle.std.specs.Prelude.{Option, Some}
 use Rattle.tables.specs.declared.kinds.Kind.{Kind}
 use Rattle.tables.specs.declared.entry.Entry as tables
 use Rattle.tables.specs.Kind.{number, Stands}
 use Rattle.tables.specs.Fields.{Fields}
+use Rattle.tables.proofs.Found.{found_is}
 use Rattle.printer.specs.Printing.{HasEntry, meant_shown, meant_held, meant_at, entry_shown, entry_held, ranks, opening_for, closing_for}
 
 -- what an entry of a sort stands for
@@ -218,22 +219,7 @@ module _ {table : Bytes} {e : ℕ} (has : HasEntry table e) where
     unfolding held between
     held_between l = held_by least ∙ rw (lt-leb least (get_or ranks own.kind 0) l)
 
--- The list has the kind of an entry in order,
-pub kind_found : {table : Bytes} {e n : ℕ} (found : Option Kind) → HasEntry table e → n ≡ (entry_at (entries table) e).kind → Stands n found
-    → IsSome found
-unfolding row_at
-kind_found (Some k) has is stands = refl
-kind_found None has is stands =
-    let right = has.order _ has.within in
-    let no : none ≡ some right.row = sym stands ∙ ap row_of is ∙ right.listed in
-    cc
-
--- and what is found is that kind
-pub kind_is : {entry : Entry} {read : tables.Entry} (found : Option Kind) {kind is : Kind} → Fields entry read → Stands read.kind found
+-- the kind of an entry, by what was read of it
+pub kind_is : {entry : Entry} {read : tables.Entry} {found : Option Kind} {kind is : Kind} → Fields entry read → Stands read.kind found
     → found ≡ Some kind → kind ≡ is → entry.kind ≡ number is
-kind_is {read = read} found {kind} {is} fields stands e same =
-    let here : read.kind ≡ number kind = rw e at stands in
-    sym fields.kind ∙ here ∙ ap number same
-
-pub listed_is : {n : ℕ} {found : Option Kind} {kind : Kind} → Stands n found → found ≡ Some kind → n ≡ number kind
-listed_is stands e = rw e at stands
+kind_is fields stands e same = sym fields.kind ∙ found_is stands e ∙ ap number same
