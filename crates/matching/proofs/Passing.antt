@@ -2,6 +2,7 @@
 use Prim.Native.Nat.{ℕ, ◌+◌, ◌*◌, ◌<◌, min}
 use native.Mathlib.Omega.{arith}
 use mathlib.Core.Path.{◌≡◌, refl, sym, ap, subst, ◌∙◌}
+use mathlib.Core.Logic.Iff
 use mathlib.Core.Logic.{◌↔◌, ◌⊎◌, inl, inr, ⊎_elim, ⊎_map}
 use mathlib.Core.List.{List}
 use lib.ListN.{length, get_or}
@@ -10,8 +11,6 @@ use Rattle.std.specs.Prelude.{Option, Some, None, MatchOption, IsSome}
 use Rattle.std.proofs.Math.Logic.{∥∥₁_elim}
 use Rattle.query.specs.Table.{Entries, entries}
 use Rattle.sets.specs.Sets.{In, Holds, Image, Inside}
-use Rattle.steps.specs.Added.{Added}
-use Rattle.steps.proofs.Adding.{holds_more}
 use Rattle.rules.specs.Language.{Expression, Word, InLanguage, empty, one, then, either, star}
 use Rattle.rules.specs.declared.Rule.{Rule}
 use Rattle.rules.specs.Table.{EntryRight}
@@ -89,8 +88,8 @@ module _ {w : Word} {set : List ℕ} where
 -- ---- the place before the word
 
 -- it is put into the empty set
-pub only_first : {none set : List ℕ} → Holds (λ k. ⊥) none → Added (λ k. 0 ≡ k) none set → Holds (λ k. 0 ≡ k) set
-only_first = holds_more (λ k. (⊎_elim (λ x. absurd x) (λ e. e), inr))
+pub only_first : {none set : List ℕ} → Holds (λ k. ⊥) none → Holds (λ k. In none k ⊎ (0 ≡ k)) set → Holds (λ k. 0 ≡ k) set
+only_first none added = record { exact = λ k. Iff.trans (added.exact k) (⊎_elim (λ x. absurd ((none.exact k).0 x)) (λ e. e), inr) }
 
 -- from there the place behind the word is reached by a word of the language
 pub from_first : {x : Expression} {w : Word} {set r : List ℕ} → Holds (λ k. 0 ≡ k) set → Image (Spans x w) set r

@@ -1,36 +1,16 @@
 // One label further: the places behind those of a set where the label stands.
-ghost use Rattle.std.specs.Prelude.{◌↔◌, ◌+◌, ◌*◌, ◌<◌, T, length};
+ghost use Rattle.std.specs.Prelude.{◌↔◌, ◌+◌, T, length};
 ghost use Rattle.sets.specs.Sets.{Image, Inside};
-ghost use Rattle.steps.specs.Added.{Kept};
 ghost use Rattle.rules.specs.Language.{one};
 ghost use Rattle.matching.specs.Spans.{Spans, LabelAt, Used};
+
+use sets::keep;
 
 // Whether the label stands at place p.
 fn stands_at(word: &[u8], label: usize, p: usize) -> bool
     ensures { T result ↔ LabelAt word.now label p }
 {
-    if p < word.len() {
-        usize::from(word[p]) == label
-    } else {
-        false
-    }
-}
-
-// The digits of one word of a set, the w-th, at whose places the label stands.
-fn keep_digits(word: &[u8], label: usize, w: usize, digits: u64) -> u64
-    requires { w < 64 }
-    ensures { Kept (λ k. LabelAt word.now label (64 * w + k)) digits result }
-{
-    let mut rest = digits;
-    let mut kept = 0;
-    while rest != 0 {
-        let k = u64::trailing_zeros(rest);
-        rest = rest ^ (1 << k);
-        if stands_at(word, label, 64 * w + k as usize) {
-            kept = kept | (1 << k);
-        }
-    }
-    kept
+    p < word.len() && usize::from(word[p]) == label
 }
 
 // Where the label ends that stands at a place of the set, written over the set: its places are moved up by one, and the last of a word
@@ -40,11 +20,10 @@ pub(crate) fn go_over(word: &[u8], label: usize, set: &mut [u64; 64], used: usiz
     requires inside { Inside (length word.now + 1) set.old }
     ensures { Image (Spans (one label) word.now) set.old set.new }
 {
-    let words: &mut [u64] = set;
     let mut last = 0;
     for w in 0..used {
-        let kept = keep_digits(word, label, w, words[w]);
-        words[w] = (kept << 1) | last;
+        let kept = keep(set[w], |k| stands_at(word, label, 64 * w + k));
+        set[w] = (kept << 1) | last;
         last = kept >> 63;
     }
 }

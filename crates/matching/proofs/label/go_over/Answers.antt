@@ -1,5 +1,5 @@
 -- `go_over`. The loop's invariant: the words passed hold what is behind the places with the label, and the digit over is the next one.
--- The measure is the number of words that are left.
+--
 use Prim.Native.Nat.{ℕ, ◌+◌, ◌*◌, ◌<◌}
 use native.Mathlib.Nat.{le_refl}
 use native.Mathlib.Omega.{arith}
@@ -9,45 +9,50 @@ use mathlib.Core.Logic.{◌↔◌}
 use borrow.Author.Rules.{rules}
 use mir.Syntax.{w64}
 use mir.Val.{Fits}
+use borrow.Author.Tests.{tests}
 use Rattle.sets.specs.Bits.{digit}
+use Rattle.sets.proofs.Keeping.{kept_where}
 use Rattle.sets.proofs.Words.{in_word, none_made, one_made, front_made, none_above}
-use Rattle.steps.proofs.Adding.{holds_same}
+use Rattle.matching.specs.Spans.{LabelAt}
 use Rattle.matching.proofs.Spanning.{spans_one}
 use Rattle.matching.proofs.Moving.{none_over, word_moved, word_over}
 use Rattle.matching.proofs.label.go_over.Goals as goal
 use Rattle.matching.proofs.label.go_over.Invariants.{Labelled}
-use Rattle.matching.proofs.label.go_over.Goals.{After-keep_digits-kept}
+use Rattle.matching.proofs.label.go_over.Goals.{After-keep-kept}
 
 -- a turn: the digits kept are those of the set where the label stands
-abbrev P : After-keep_digits-kept → ℕ → Type 0
+abbrev P : After-keep-kept → ℕ → Type 0
 P c = Labelled c.args.word.now c.args.label c.args.set.now
 
-kept : (c : After-keep_digits-kept) (k : ℕ) → k < 64 → (digit c.keep_digits-kept.result k ≡ 1) ↔ P c (64 * c.loop-w.w + k)
+kept : (c : After-keep-kept) (k : ℕ) → k < 64 → (digit c.keep-kept.result k ≡ 1) ↔ P c (64 * c.loop-w.w-counter + k)
 kept c k l =
-    let w = c.loop-w.w in
-    Iff.trans (rw (c.loop-w.invariant.1.rest w (le_refl w)) at (c.keep_digits-kept.ensures k l)) (Iff.and (in_word _ w k l) Iff.rfl)
+    let w = c.loop-w.w-counter in
+    let at : ℕ → Type 0 = λ j. LabelAt c.args.word.now c.args.label (64 * w + j) in
+    Iff.trans (kept_where at c.keep-kept.ensures (λ j l p. search (rules, tests)) (λ j l p. search (rules, tests)) k l)
+    (Iff.and (rw (c.loop-w.invariant.0.rest w (le_refl w)) (in_word c.args.set.now w k l)) Iff.rfl)
 
 pub loop-w-init : goal.loop-w-init
-loop-w-init c = (omega arith, none_made _, none_over)
+loop-w-init c = (none_made _, none_over)
 
 pub loop-w-preserved : goal.loop-w-preserved
 loop-w-preserved c =
-    let (low, made, over) = c.loop-w.invariant in
-    let w = c.loop-w.w in
-    let turn = (goal.at.loop-w-preserved c).After-keep_digits-kept in
-    let digits = c.keep_digits-kept.result in
+    let (made, over) = c.loop-w.invariant in
+    let w = c.loop-w.w-counter in
+    let turn = (goal.at.loop-w-preserved c).After-keep-kept in
+    let digits = c.keep-kept.result in
     let whole : Fits w64 digits = search rules in (
-      omega arith,
       one_made made (omega arith) (word_moved (P turn) w digits (kept turn) over),
       word_over (P turn) w digits (kept turn) whole.fits,
     )
 
 pub returns : goal.returns
 returns c =
-    holds_same (λ q. (
-      λ (p, next, (x, at)). (p, x, (spans_one p q).1 (next, at)),
-      λ (p, x, s). let (next, at) = (spans_one p q).0 s in (p, next, (x, at)),
-    ))
-    (front_made _ c.loop-w.invariant.1 (search rules) (omega (arith, c.requires.used))
+    let moved = front_made _ c.loop-w.invariant.0 (search rules) (omega (arith, c.requires.used))
     (none_above _ c.requires.inside (λ q (p, next, (x, at)). omega (arith, at.within)))
-    (λ q (p, next, (x, at)). omega (arith, at.within, c.requires.used)))
+    (λ q (p, next, (x, at)). omega (arith, at.within, c.requires.used)) in
+    record {
+      exact = λ q. Iff.trans (moved.exact q) (
+        λ (p, next, (x, at)). (p, x, (spans_one p q).1 (next, at)),
+        λ (p, x, s). let (next, at) = (spans_one p q).0 s in (p, next, (x, at)),
+      );
+    }

@@ -1,6 +1,5 @@
 -- `go_over`. The loop's invariant: the words passed hold what is behind the places with the label, and the digit over is the next one.
--- The measure is the number of words that are left.
-use Prim.Native.Nat.{ℕ, ◌-◌, ◌≤◌}
+use Prim.Native.Nat.{ℕ}
 use mathlib.Core.List.{List}
 use Rattle.sets.specs.Sets.{In}
 use Rattle.sets.proofs.Words.{Made}
@@ -15,7 +14,4 @@ Labelled word label set p = In set p × LabelAt word label p
 
 abbrev pub invariant-loop-w : goal.invariant-loop-w
 invariant-loop-w l =
-    (l.w ≤ l.used) × Made 64 (Behind (Labelled l.word l.label l.initial.words)) l.initial.words l.words l.w × Over (Labelled l.word l.label l.initial.words) l.w l.last
-
-abbrev pub decreases-loop-w : goal.decreases-loop-w
-decreases-loop-w l = l.used - l.w
+    Made 64 (Behind (Labelled l.word l.label l.initial.set)) l.initial.set l.set l.w-counter × Over (Labelled l.word l.label l.initial.set) l.w-counter l.last
