@@ -18,13 +18,12 @@ pub fn gather(roll: &[u8], links: &[u16; 8192], i: usize, word: &mut [u8; 4096])
     requires i_in_bounds { i < length (nodes roll.now) }
     ensures { Gathered (word_of (nodes roll.now) i) word.new result }
 {
-    let labels: &mut [u8] = word;
     let mut n = 0;
-    let mut j = first_child(roll, i);
-    while j < 4096 {
-        labels[n] = label_at(roll, j) as u8;
+    let mut next = first_child(roll, i);
+    while let Some(j) = next {
+        word[n] = label_at(roll, j) as u8;
         n += 1;
-        j = link_at(links, j);
+        next = link_at(links, j);
     }
     n
 }

@@ -1,54 +1,58 @@
--- `gather`. The loop's invariant: j is a child or behind all records, and the word of the records below j is gathered. The measure is how
--- far j is from 65,536, since each link leads on.
+-- `gather`. The loop's invariant: the next record is a child, and the word of the records before it is gathered. The measure is how
+-- far it is from 65,536, since each link leads on.
 use Prim.Native.Nat.{suc, ◌<◌}
 use native.Mathlib.Omega.{arith}
+use mathlib.Core.Path.{ap}
 use borrow.Author.Rules.{rules}
-use lib.ListN.{length-set}
 use lib.Seq.{take_all}
 use Rattle.tree.specs.Tree.{Child}
 use Rattle.roll.specs.Roll.{nodes}
 use Rattle.roll.proofs.Deciding.{roll_in_order, roll_most}
-use Rattle.steps.proofs.Reaching.{Waits, wait_all, wait_next}
+use Rattle.links.proofs.Linking.{link_is}
+use Rattle.steps.proofs.Reaching.{place, Waits, wait_all, wait_next}
 use Rattle.words.proofs.Children.{label_small, gathered_none, gathered_more}
 use Rattle.words.proofs.gather.Goals as goal
-use Rattle.words.proofs.gather.Goals.{After-link_at-j, In-loop-j}
+use Rattle.words.proofs.gather.Goals.{After-link_at-next, In-Some}
 
--- in a turn j is a child
-child : (c : In-loop-j) → Child (nodes c.args.roll.now) c.args.i c.loop-j.j
-child c = c.loop-j.invariant.0 (omega arith)
+-- the child of a turn
+child : (c : In-Some) → (c.in-Some.j < 4096) × Child (nodes c.args.roll.now) c.args.i c.in-Some.j
+child c = c.loop-next.invariant.0 c.in-Some.j c.in-Some.is
 
--- behind j, the child that its link leads to waits
-waits : (c : After-link_at-j) → Waits (nodes c.args.roll.now) c.args.i (suc c.loop-j.j) c.link_at-j.result
+-- behind it, the child that its link leads to waits
+waits : (c : After-link_at-next) → Waits (nodes c.args.roll.now) c.args.i (suc c.in-Some.j) c.link_at-next.result
 waits c =
-    let child : Child (nodes c.args.roll.now) c.args.i c.loop-j.j = c.loop-j.invariant.0 (omega arith) in
+    let (low, here) = c.loop-next.invariant.0 c.in-Some.j c.in-Some.is in
     let (right, linked) = c.requires.roll in
-    let j = c.loop-j.j in
-    let low : j < 4096 = omega arith in
-    wait_next (roll_in_order right) low child (rw c.link_at-j.ensures (linked.each j low))
+    wait_next (roll_in_order right) _ low here (link_is _ (linked.each c.in-Some.j low) c.link_at-next.ensures)
 
-pub first_child-j-requires : goal.first_child-j-requires
-first_child-j-requires c =
+pub first_child-next-requires : goal.first_child-next-requires
+first_child-next-requires c =
     let right = c.requires.roll.0 in
     record { roll = right; i_bound = omega (arith, roll_most right) }
 
-pub loop-j-init : goal.loop-j-init
-loop-j-init c =
-    let waits = wait_all (roll_in_order c.requires.roll.0) c.first_child-j.ensures in
-    (waits.child, search rules, gathered_none waits)
+pub loop-next-init : goal.loop-next-init
+loop-next-init c =
+    let waits = wait_all (roll_in_order c.requires.roll.0) _ c.first_child-next.ensures in
+    (waits.child, gathered_none waits)
 
-pub overflow_cast-labels : goal.overflow_cast-labels
-overflow_cast-labels c = omega (arith, label_small c.requires.roll.0 _ c.label_at.ensures)
+pub overflow_cast-word : goal.overflow_cast-word
+overflow_cast-word c = omega (arith, label_small c.requires.roll.0 _ c.label_at.ensures)
 
-pub loop-j-smaller : goal.loop-j-smaller
-loop-j-smaller c = omega (arith, (waits c).behind)
+pub link_at-next-requires : goal.link_at-next-requires
+link_at-next-requires c = omega (arith, (child (goal.at.link_at-next-requires c).In-Some).0)
 
-pub loop-j-preserved : goal.loop-j-preserved
-loop-j-preserved c =
-    let (_, size, gathered) = c.loop-j.invariant in
+pub loop-next-smaller : goal.loop-next-smaller
+loop-next-smaller c = omega (arith, ap place c.in-Some.is, (waits c).behind, (child (goal.at.loop-next-smaller c).In-Some).0)
+
+pub loop-next-preserved : goal.loop-next-preserved
+loop-next-preserved c =
+    let here = (child (goal.at.loop-next-preserved c).In-Some).1 in
+    let gathered = rw c.in-Some.is at c.loop-next.invariant.1 in
     let most = roll_most c.requires.roll.0 in
-    ((waits c).child, simp length-set size, rw c.label_at.ensures (gathered_more most size gathered (child (goal.at.loop-j-preserved c).In-loop-j) (waits c)))
+    ((waits c).child, rw c.label_at.ensures (gathered_more most (search rules) gathered here (waits c)))
 
 pub returns : goal.returns
 returns c =
     let most = roll_most c.requires.roll.0 in
-    rw (take_all c.loop-j.j (nodes c.args.roll.now) (omega arith)) at c.loop-j.invariant.2
+    let gathered = rw c.in_default.is at c.loop-next.invariant.1 in
+    rw (take_all 65535 (nodes c.args.roll.now) (omega arith)) at gathered
