@@ -10,10 +10,10 @@ ghost use Rattle.tokens.specs.Reading.{outer_chain, inner_chain, chains, links};
 
 use derivation::Bracket;
 use reply::OPEN_BRACKETS;
-use tables::Kind;
+use tables::{Kind, Sort};
 use tokens::{
-    Parsed, Read, Sort, Stopped, axis, behind, byte_at, closed, closing, inner, joined, joint,
-    labelled, leaf, outer, past_nots, put,
+    Parsed, Read, Stopped, axis, behind, byte_at, closed, closing, inner, joined, joint, labelled,
+    leaf, outer, past_nots, put,
 };
 
 // "path: sequences joined by `|`"

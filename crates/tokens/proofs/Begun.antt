@@ -11,8 +11,8 @@ use Rattle.derivation.proofs.Rules as rules
 use Rattle.tokens.specs.declared.answer.Read.{Read}
 use Rattle.std.specs.Prelude.{Ok, Err}
 use Rattle.tokens.specs.declared.answer.Stopped.{Stopped}
-use Rattle.tokens.specs.declared.kind.Sort.{Sort}
-use Rattle.tokens.specs.declared.kind.Sort.TheVariants as sort
+use Rattle.tables.specs.declared.kinds.Sort.{Sort}
+use Rattle.tables.specs.declared.kinds.Sort.TheVariants as sort
 use Rattle.tokens.specs.Reading.{Entered, Answer, Follows, RoomAhead, joined_entries, joined_spare, chains, links}
 use Rattle.tokens.specs.Reading.{outer_chain, inner_chain, Joins, alone, both}
 use Rattle.tokens.proofs.Places.{inside}

@@ -17,8 +17,8 @@ use Rattle.derivation.proofs.Rules.{Stop, broken, deep, Result, got, stopped, La
 use Rattle.tokens.specs.declared.answer.Read.{Read}
 use Rattle.tokens.specs.declared.answer.Stopped.{Stopped}
 use Rattle.tokens.specs.declared.answer.Stopped.TheVariants.{Broken, Deep}
-use Rattle.tokens.specs.declared.kind.Sort.{Sort}
-use Rattle.tokens.specs.declared.kind.Sort.TheVariants as sort
+use Rattle.tables.specs.declared.kinds.Sort.{Sort}
+use Rattle.tables.specs.declared.kinds.Sort.TheVariants as sort
 
 -- A kind of thing that is read: the rules that read it, what is written for it behind n entries, and how far that stays below two entries
 -- for each byte.

@@ -5,16 +5,10 @@ ghost use Rattle.tables.specs.Kind.{number};
 ghost use Rattle.tokens.specs.Reading.{outer_chain, inner_chain, joined_kind, AxisOf};
 
 use derivation::{Bracket, Chain};
-use tables::Kind;
+use tables::{Kind, Sort};
 
-// A path is a chain of sequences, which are chains of items; a filter is a chain of conjunctions, which are chains of terms.
-#[derive(Clone, Copy)]
-pub enum Sort {
-    Path,
-    Filter,
-}
-
-// The chain that a path or a filter is.
+// The chain that a path or a filter is: a path is a chain of sequences, which are chains of items; a filter is a chain of conjunctions,
+// which are chains of terms.
 pub fn outer(sort: Sort) -> Chain
     ensures { result ≡ outer_chain sort }
 {

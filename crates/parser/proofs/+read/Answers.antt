@@ -11,7 +11,7 @@ use Rattle.derivation.specs.declared.Chain.{Chain}
 use Rattle.std.specs.Prelude.{Ok}
 use Rattle.reply.proofs.Checking.{met}
 use Rattle.tokens.specs.declared.answer.Read.{Read}
-use Rattle.tokens.specs.declared.kind.Sort.{Sort}
+use Rattle.tables.specs.declared.kinds.Sort.{Sort}
 use Rattle.tokens.specs.Reading.{RoomAhead, Follows, items, chains, links, outer_chain, inner_chain}
 use Rattle.tokens.proofs.Places as places
 use Rattle.tokens.proofs.Places.{nor, none_of}

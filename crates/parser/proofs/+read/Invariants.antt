@@ -6,8 +6,8 @@ use mathlib.Core.List.{List}
 use lib.ListN.{length}
 use Rattle.reply.specs.Bytes.{Bytes}
 use Rattle.derivation.proofs.Rules.{StarsRead}
-use Rattle.tokens.specs.declared.kind.Sort.{Sort}
-use Rattle.tokens.specs.declared.kind.Sort.TheVariants as sort
+use Rattle.tables.specs.declared.kinds.Sort.{Sort}
+use Rattle.tables.specs.declared.kinds.Sort.TheVariants as sort
 use Rattle.tokens.specs.Reading.{Follows, items, terms}
 use Rattle.tokens.proofs.Chains.{Going}
 use Rattle.tokens.proofs.Begun.{Standing}
