@@ -1,8 +1,9 @@
 // Paths and filters on sets of nodes: a path takes a set to its image, and a filter narrows a set to the nodes where it holds. The two
 // call each other, and the entry number falls.
+ghost use Rattle.std.specs.Prelude.{IfSome};
 ghost use Rattle.roll.specs.Roll.{nodes};
 ghost use Rattle.query.specs.Kind.{path, filter};
-ghost use Rattle.query.specs.Meaning.{reach, holds, Star};
+ghost use Rattle.query.specs.Meaning.{reach, holds};
 ghost use Rattle.query.specs.Syntax as syntax;
 ghost use Rattle.query.specs.Table.{entries, filter_at};
 ghost use Rattle.sets.specs.Sets.{Image, Narrowed};
@@ -70,8 +71,11 @@ impl<'a> Evaluation<'a> {
         ensures { Image (reach (nodes self.now.roll.now) (syntax.star (goes self.now e course))) from result }
     {
         match path_entry(self.table, e) {
-            PathEntry::Then(left, right) => self.of_two(e, left, right, course, from),
             PathEntry::Star(path) => self.star(path, course, from),
+            PathEntry::Then(left, right) => match self.of_two(e, left, right, course, from) {
+                Some(reached) => reached,
+                None => self.by_rounds(e, course, from),
+            },
             _ => match way_of(self.table, e, course, DEEP) {
                 Some(axes) => closure(self.roll, self.links, axes, below(NODES), from),
                 None => self.by_rounds(e, course, from),
@@ -79,9 +83,11 @@ impl<'a> Evaluation<'a> {
         }
     }
 
-    // The star of one path and then another: where one of the two is a filter at hand and the other leads along axes, it goes on from each
-    // node once. A step and then the filter, many times, is a step, then the filter and a step many times, and the filter.
+    // The star of one path and then another, if one of the two is a filter at hand and the other leads along axes: it goes on from each node
+    // once. A step and then the filter, many times, is a step, then the filter and a step many times, and the filter. Its sets take room only
+    // while it runs, and none of that of rounds.
     #[cycle(walk)]
+    #[inline(never)]
     fn of_two(
         &self,
         e: usize,
@@ -89,32 +95,32 @@ impl<'a> Evaluation<'a> {
         right: usize,
         course: Course,
         from: [u64; 64],
-    ) -> [u64; 64]
+    ) -> Option<[u64; 64]>
         requires asked { Asks self.now path e from }
         requires parts { ForPath self.now.table.now e (PathEntry.Then left right) }
-        ensures { Image (reach (nodes self.now.roll.now) (syntax.star (goes self.now e course))) from result }
+        ensures { IfSome result (Image (reach (nodes self.now.roll.now) (syntax.star (goes self.now e course))) from) }
     {
         let first = first_of(course, left, right);
         let second = first_of(course, right, left);
         if stays_at_hand(self.table, self.known, first) {
-            if let Some(axes) = way_of(self.table, second, course, DEEP) {
-                let open = self.sources(first, course, from);
-                return closure(self.roll, self.links, axes, open, from);
-            }
-        } else if stays_at_hand(self.table, self.known, second) {
-            if let Some(axes) = way_of(self.table, first, course, DEEP) {
-                let begun = step(self.roll, self.links, axes, from);
-                let open = self.sources(second, course, begun);
-                let ends = closure(self.roll, self.links, axes, open, begun);
-                return union(from, common(ends, open));
-            }
+            let axes = way_of(self.table, second, course, DEEP)?;
+            let open = self.sources(first, course, from);
+            return Some(closure(self.roll, self.links, axes, open, from));
         }
-        self.by_rounds(e, course, from)
+        if stays_at_hand(self.table, self.known, second) {
+            let axes = way_of(self.table, first, course, DEEP)?;
+            let begun = step(self.roll, self.links, axes, from);
+            let open = self.sources(second, course, begun);
+            let ends = closure(self.roll, self.links, axes, open, begun);
+            return Some(union(from, common(ends, open)));
+        }
+        None
     }
 
     // Where a star may go on that starts from a set: at the nodes where the filter holds that the path stays by. All nodes are asked at
     // once. If it holds nowhere in the set, the star ends there.
     #[cycle(walk)]
+    #[inline(never)]
     fn sources(&self, e: usize, course: Course, from: [u64; 64]) -> [u64; 64]
         requires asked { Asks self.now path e from }
         requires still { Still (goes self.now e course) }
@@ -133,7 +139,7 @@ impl<'a> Evaluation<'a> {
     #[cycle(walk)]
     fn by_rounds(&self, e: usize, course: Course, from: [u64; 64]) -> [u64; 64]
         requires { Asks self.now path e from }
-        ensures { Image (Star (reach (nodes self.now.roll.now) (goes self.now e course))) from result }
+        ensures { Image (reach (nodes self.now.roll.now) (syntax.star (goes self.now e course))) from result }
     {
         let mut all = empty();
         let mut fresh = from;

@@ -45,6 +45,7 @@ by_rounds-loop-course-preserved t c =
     next_round c.loop-course.invariant (path_stays c.requires _) c.union-grown.ensures c.image-reached.ensures c.difference-rest.ensures
 
 pub by_rounds-returns : goal.by_rounds-returns
+unfolding reach
 by_rounds-returns t c = last_round c.loop-course.invariant (test_passed c.is_empty.result c.is_empty.ensures c.loop-course-test.false)
 
 -- # image
@@ -132,23 +133,19 @@ sources-returns-then-is_empty t c =
 pub sources-below-all-requires : goal.sources-below-all-requires
 sources-below-all-requires t c = rw c.count.ensures (roll_most c.requires.asked.given.grounds.roll_right)
 
--- # star: along axes each node is gone on from once, and rounds for any other path
+-- # star
 
 -- of a star, what that star reaches
 pub star-returns-in-Star : goal.star-returns-in-Star
 star-returns-in-Star t c = rw c.in-Star.ensures.1 (walk_star_star (nodes c.args.self.now.roll.now) c.args.course _ c.star.ensures)
 
 -- along axes, from each node once
-pub star-returns-in-Some : goal.star-returns-in-Some
+pub star-returns-in-Some-way_of : goal.star-returns-in-Some-way_of
 unfolding reach
-star-returns-in-Some t c =
+star-returns-in-Some-way_of t c =
     let g = c.requires.given.grounds.roll_right in
-    image_star (c.in-Some.ensures (nodes c.args.self.now.roll.now))
+    image_star (c.in-Some-way_of.ensures (nodes c.args.self.now.roll.now))
     (star_of_steps (roll_in_order g) (roll_most g) c.below.ensures c.closure.ensures)
-
-pub star-returns-in-None : goal.star-returns-in-None
-unfolding reach
-star-returns-in-None t c = c.by_rounds.ensures
 
 -- # of_two: the two parts, in the order of the course
 
@@ -161,15 +158,15 @@ along : (t : ℕ) (c : of_two-After-first_of-second t) {axes : Axes}
     → Stays (length (nodes c.args.self.now.roll.now)) (AlongAny (nodes c.args.self.now.roll.now) axes)
 along t c = let g = c.requires.asked.given.grounds.roll_right in steps_stay (roll_in_order g) (roll_most g)
 
-pub of_two-returns-in-Some : goal.of_two-returns-in-Some
+pub of_two-returns-then-stays_at_hand : goal.of_two-returns-then-stays_at_hand
 unfolding reach
-of_two-returns-in-Some t c =
+of_two-returns-then-stays_at_hand t c =
     let tree = nodes c.args.self.now.roll.now in
-    let at = (goal.at.of_two-returns-in-Some t c).After-first_of-second in
+    let at = (goal.at.of_two-returns-then-stays_at_hand t c).After-first_of-second in
     let still = c.stays_at_hand.ensures (subst T (sym c.if-stays_at_hand.true) tt) c.args.course in
     let p = goes c.args.self.now c.first_of-first.result c.args.course in
     let q = goes c.args.self.now c.first_of-second.result c.args.course in
-    image_star (λ i j. Iff.trans (then_along q (reach tree p) c.in-Some.ensures i j) (Iff.symm ((two_parts t at).same tree i j)))
+    image_star (λ i j. Iff.trans (then_along q (reach tree p) c.in_ok-axes.ensures i j) (Iff.symm ((two_parts t at).same tree i j)))
     (filter_first still (along t at) c.requires.asked.asked.nodes_only c.sources-open.ensures (image_star step_from c.closure.ensures))
 
 -- and so does where the first one leads
@@ -177,9 +174,9 @@ begun_inside : (t : ℕ) (c : of_two-After-first_of-second t) {axes : Axes} {beg
     → Image (AlongAny (nodes c.args.self.now.roll.now) axes) c.args.from begun → Inside (length (nodes c.args.self.now.roll.now)) begun
 begun_inside t c = image_inside (along t c) c.requires.asked.asked.nodes_only
 
-pub of_two-sources-open-requires-in-Some-way_of : goal.of_two-sources-open-requires-in-Some-way_of
-of_two-sources-open-requires-in-Some-way_of t c =
-    let at = (goal.at.of_two-sources-open-requires-in-Some-way_of t c).After-first_of-second in
+pub of_two-sources-open-requires-then-stays_at_hand-2 : goal.of_two-sources-open-requires-then-stays_at_hand-2
+of_two-sources-open-requires-then-stays_at_hand-2 t c =
+    let at = (goal.at.of_two-sources-open-requires-then-stays_at_hand-2 t c).After-first_of-second in
     let other = (two_parts t at).other in (
       omega (arith, c.decreases, other.earlier),
       (
@@ -187,24 +184,20 @@ of_two-sources-open-requires-in-Some-way_of t c =
           given = c.requires.asked.given;
           asked = record { entry = other.entry; nodes_only = begun_inside t at c.step-begun.ensures };
         },
-        c.stays_at_hand-else-stays_at_hand.ensures (subst T (sym c.if-stays_at_hand-2.true) tt) c.args.course,
+        c.stays_at_hand-2.ensures (subst T (sym c.if-stays_at_hand-2.true) tt) c.args.course,
       ),
     )
 
-pub of_two-returns-in-Some-way_of : goal.of_two-returns-in-Some-way_of
+pub of_two-returns-then-stays_at_hand-2 : goal.of_two-returns-then-stays_at_hand-2
 unfolding reach
-of_two-returns-in-Some-way_of t c =
+of_two-returns-then-stays_at_hand-2 t c =
     let tree = nodes c.args.self.now.roll.now in
-    let at = (goal.at.of_two-returns-in-Some-way_of t c).After-first_of-second in
+    let at = (goal.at.of_two-returns-then-stays_at_hand-2 t c).After-first_of-second in
     let inside = begun_inside t at c.step-begun.ensures in
-    let still = c.stays_at_hand-else-stays_at_hand.ensures (subst T (sym c.if-stays_at_hand-2.true) tt) c.args.course in
+    let still = c.stays_at_hand-2.ensures (subst T (sym c.if-stays_at_hand-2.true) tt) c.args.course in
     let p = goes c.args.self.now c.first_of-first.result c.args.course in
     let q = goes c.args.self.now c.first_of-second.result c.args.course in
     let star = image_star step_from c.closure-ends.ensures in
-    image_star (λ i j. Iff.trans (along_then p (reach tree q) c.in-Some-way_of.ensures i j) (Iff.symm ((two_parts t at).same tree i j)))
-    (step_first c.step-begun.ensures (filter_first still (along t at) inside c.sources-open-in-Some-way_of.ensures star)
-    (ends_held still (along t at) inside c.sources-open-in-Some-way_of.ensures star c.common.ensures) c.union.ensures)
-
-pub of_two-returns : goal.of_two-returns
-unfolding reach
-of_two-returns t c = c.by_rounds.ensures
+    image_star (λ i j. Iff.trans (along_then p (reach tree q) c.in_ok-axes-2.ensures i j) (Iff.symm ((two_parts t at).same tree i j)))
+    (step_first c.step-begun.ensures (filter_first still (along t at) inside c.sources-open-then-stays_at_hand-2.ensures star)
+    (ends_held still (along t at) inside c.sources-open-then-stays_at_hand-2.ensures star c.common.ensures) c.union.ensures)
