@@ -71,8 +71,8 @@ fn show(table: &[u8], e: usize, text: &mut Writing) -> Result<(), TooLong>
     }
 }
 
-// The text of entry e where at least a rank is asked for: in brackets if it is joined more loosely. A text that is full already is left
-// alone, so that no entry is unfolded for nothing.
+// The text of entry e where at least a rank is asked for: in brackets if it is joined more loosely. At the byte that no longer fits `?`
+// leaves all of them, so that no entry is unfolded for nothing.
 #[cycle(hold_show)]
 pub(crate) fn hold(table: &[u8], e: usize, least: usize, text: &mut Writing) -> Result<(), TooLong>
     requires { HasEntry table.now e }

@@ -17,13 +17,18 @@ pub(crate) fn rank(kind: Kind) -> usize
     }
 }
 
-// The brackets around what a kind makes: ( and ) around a path, { and } around a filter. The numbers of paths are below 16.
+// The brackets around what a kind makes: { and } around a filter, ( and ) around a path.
 pub(crate) fn brackets(kind: Kind) -> (u8, u8)
     ensures { result ≡ (opening_for (number kind), closing_for (number kind)) }
 {
-    if u8::from(kind) < 16 {
-        (b'(', b')')
-    } else {
-        (b'{', b'}')
+    match kind {
+        Kind::Labelled
+        | Kind::Leads
+        | Kind::Always
+        | Kind::Never
+        | Kind::Not
+        | Kind::And
+        | Kind::Or => (b'{', b'}'),
+        _ => (b'(', b')'),
     }
 }
