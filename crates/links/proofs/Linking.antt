@@ -1,16 +1,17 @@
 -- Links are filled in one by one: after the records below j, they are right for the pairs of siblings whose second is below j.
 -- Assumes nothing.
-use Prim.Native.Nat.{ℕ, ◌+◌, ◌≤◌, ◌<◌}
-use native.Mathlib.Decide.{ℕ_discrete}
+use Prim.Native.Nat.{ℕ, ◌+◌, ◌-◌, ◌≤◌, ◌<◌}
+use native.Mathlib.Decide.{ℕ_discrete, dec_lt}
 use native.Mathlib.Omega.{arith}
-use mathlib.Core.Path.{◌≡◌, ◌∙◌}
+use mathlib.Core.Path.{◌≡◌, sym, ◌∙◌}
 use mathlib.Core.Logic.{◌↔◌}
 use mathlib.Core.List.{List}
-use lib.ListN.{length, set, replicate, length-set, length-replicate, get_or-replicate}
+use lib.ListN.{length, get_or, set, replicate, length-set, length-replicate, get_or-replicate}
 use lib.Seq.{get_or-set_same, get_or-set_other}
 use Rattle.tree.specs.Tree.{Tree, Next}
 use Rattle.tree.proofs.Siblings.{previous_unique}
-use Rattle.links.specs.Links.{Link, to, nowhere, Linked, next, previous, Siblings}
+use Rattle.std.specs.Prelude.{Option, Some, None}
+use Rattle.links.specs.Links.{Link, to, nowhere, LinkIs, NumberIs, Linked, next, previous, Siblings}
 
 module _ {R S : ℕ → ℕ → Type 0} where
   -- a link is right for any relation that leads from i where the first one does
@@ -32,6 +33,13 @@ module _ {R S : ℕ → ℕ → Type 0} where
               | no n ↦ rw (old k l n) (link_same (same k n) (linked.each k l))
             ];
       }
+
+-- an answer says what the link does whose number it gives
+pub link_is : {R : ℕ → ℕ → Type 0} {i v : ℕ} (r : Option ℕ) → Link R i v → NumberIs v r → LinkIs R i r
+link_is (Some j) (to l leads) (e, _) = rw (sym e) (l, leads)
+link_is (Some j) (nowhere none) (e, l) = absurd (omega arith)
+link_is None (to l leads) e = absurd (omega arith)
+link_is None (nowhere none) e = none
 
 -- where nothing leads anywhere, no link is there
 linked_none : {R : ℕ → ℕ → Type 0} {link : ℕ → ℕ} → ((i : ℕ) → i < 4096 → link i ≡ 65535) → ((i m : ℕ) → ¬ R i m) → Linked R link
@@ -101,3 +109,18 @@ module _ {t : Tree} {links : List ℕ} where
         onwards = linked_same (λ i m. (λ r. r.0, λ n. (n, n.right.node))) all.onwards;
         backwards = linked_same (λ i m. (λ r. r.0, λ n. (n, n.right.node))) all.backwards;
       }
+
+-- each of the links that is there leads to a record
+pub link_low : {t : Tree} {links : List ℕ} {place j : ℕ} → Siblings t links → place < 8192 → NumberIs (get_or links place 65535) (Some j) → j < 4096
+link_low {links = links} {place} {j} all l (e, leads) =
+    elim (dec_lt place 4096) [
+      | yes h ↦ low (all.onwards.each place h) e
+      | no h ↦
+          let i = place - 4096 in
+          let at : 4096 + i ≡ place = omega arith in
+          low (all.backwards.each i (omega arith)) (rw at e)
+    ]
+  where
+    low : {R : ℕ → ℕ → Type 0} {i v : ℕ} → Link R i v → v ≡ j → j < 4096
+    low (to l r) e = omega arith
+    low (nowhere none) e = absurd (omega arith)

@@ -52,9 +52,10 @@ module _ {test : ℕ → Bool → Type 0} {word : ℕ} where
   }
 
 -- where the test says of every place whether it has a property, the digits that have it are kept
-pub kept_where : {test : ℕ → Bool → Type 0} {P : ℕ → Type 0} {word kept : ℕ} → ((k : ℕ) → test k true → P k) → ((k : ℕ) → test k false → ¬ P k)
-    → Kept test word kept → (k : ℕ) → k < 64 → (digit kept k ≡ 1) ↔ ((digit word k ≡ 1) × P k)
-kept_where {kept = kept} holds fails all k l = (
-  λ d. let (one, p) = all.passed k l d in (one, holds k p),
-  λ (d, p). ⊎_elim (λ z. absurd (fails k (all.failed k l d (λ o. omega arith)) p)) (λ o. o) (zero_or_one kept k),
+pub kept_where : {test : ℕ → Bool → Type 0} {word kept : ℕ} → (P : ℕ → Type 0) → Kept test word kept
+    → ((k : ℕ) → k < 64 → test k true → P k) → ((k : ℕ) → k < 64 → test k false → ¬ P k)
+    → (k : ℕ) → k < 64 → (digit kept k ≡ 1) ↔ ((digit word k ≡ 1) × P k)
+kept_where {kept = kept} P all holds fails k l = (
+  λ d. let (one, p) = all.passed k l d in (one, holds k l p),
+  λ (d, p). ⊎_elim (λ z. absurd (fails k l (all.failed k l d (λ o. omega arith)) p)) (λ o. o) (zero_or_one kept k),
 )

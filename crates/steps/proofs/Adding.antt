@@ -1,8 +1,11 @@
 -- Sets to which something is added: by its property, in two goes, and nothing at all. Assumes nothing.
 use Prim.Native.Nat.{ℕ}
+use mathlib.Core.Path.{◌≡◌, sym, subst}
 use mathlib.Core.Logic.Iff
 use mathlib.Core.Logic.{◌↔◌, ◌⊎◌, inl, inr, ⊎_elim, ⊎_map}
+use mathlib.Core.Bool.{Bool, true, false}
 use mathlib.Core.List.{List}
+use lib.Dec.{T}
 use Rattle.sets.specs.Sets.{Holds}
 use Rattle.steps.specs.Added.{Added}
 
@@ -35,3 +38,10 @@ added_more same =
       ⊎_elim (⊎_elim inl (λ p. inr ((same k).0 (inl p)))) (λ q. inr ((same k).0 (inr q))),
       ⊎_elim (λ m. inl (inl m)) (λ r. ⊎_elim (λ p. inl (inr p)) inr ((same k).1 r)),
     ))
+
+-- what is added where a test lets it, and what is not where it does not
+pub added_where : {P : ℕ → Type 0} {test : Bool} {before after : List ℕ} → test ≡ true → Added P before after → Added (λ k. T test × P k) before after
+added_where e = added_same (λ k. (λ p. (subst T (sym e) tt, p), λ (x, p). p))
+
+pub not_added : {P : ℕ → Type 0} {test : Bool} {set : List ℕ} → test ≡ false → Added (λ k. T test × P k) set set
+not_added e = added_nothing (λ k (x, p). subst T e x)

@@ -1,50 +1,46 @@
 -- A star goes on from one node after the other: from each that is in the set and a source, once. Assumes nothing.
-use Prim.Native.Nat.{ℕ, ◌+◌, ◌-◌, ◌*◌, ◌≤◌, ◌<◌}
-use native.Mathlib.Decide.{dec_lt}
+use Prim.Native.Nat.{ℕ, ◌+◌, ◌*◌, ◌/◌, ◌%◌, ◌^◌, ◌<◌}
 use native.Mathlib.Omega.{arith}
 use mathlib.Core.Path.{◌≡◌}
 use mathlib.Core.Logic.{◌↔◌, ◌⊎◌, inl, inr, ⊎_elim}
 use mathlib.Core.List.{List}
 use lib.ListN.{get_or}
-use lib.Bits.{bit_and, bit_or, bit_xor}
+use lib.Bits.{bit_and}
+use mir.Syntax.{w64}
+use Rattle.std.specs.Int.{bit_not}
+use Rattle.std.specs.Prelude.{Some, None}
 use Rattle.tree.specs.Tree.{Tree}
 use Rattle.query.specs.Meaning.{Star, stop, step}
 use Rattle.query.proofs.Closure.{star_keeps, star_append}
 use Rattle.sets.specs.Bits.{digit}
 use Rattle.sets.specs.Sets.{In, Holds, Image}
-use Rattle.sets.proofs.Digits.{and_one, minus_one, none_of_zero}
+use Rattle.sets.proofs.Digits.{and_one, minus_one}
 use Rattle.sets.proofs.Size.{dec_in, size_of, grown}
 use Rattle.sets.proofs.Words.{in_word}
 use Rattle.steps.specs.declared.axis.Axes.{Axes}
 use Rattle.steps.specs.Axis.{AlongAny}
 use Rattle.steps.specs.Added.{Added}
 use Rattle.steps.proofs.Adding.{added_same}
-use Rattle.steps.specs.Star.{Waits, Digits, WordWith, at, none, StepFrom, GoneOn}
+use Rattle.steps.specs.Star.{Waits, WordWith, StepFrom, GoneOn}
 
 -- the digits of a word that wait
-pub waiting_word : (set sources gone : List ℕ) (w k : ℕ) → k < 64
-    → (digit (bit_xor (bit_or (bit_and (get_or set w 0) (get_or sources w 0)) (get_or gone w 0)) (get_or gone w 0)) k ≡ 1) ↔ Waits set sources gone (64 * w + k)
-waiting_word set sources gone w k l =
+pub waiting_word : (set sources gone : List ℕ) (w k : ℕ) → get_or gone w 0 < 2 ^ 64 → k < 64
+    → (digit (bit_and (bit_and (get_or set w 0) (get_or sources w 0)) (bit_not w64 (get_or gone w 0))) k ≡ 1) ↔ Waits set sources gone (64 * w + k)
+waiting_word set sources gone w k fits l =
     let m = in_word set w k l in
     let s = in_word sources w k l in
     let g = in_word gone w k l in
     let both = and_one (get_or set w 0) (get_or sources w 0) k in
-    let rest = minus_one (bit_and (get_or set w 0) (get_or sources w 0)) (get_or gone w 0) k in (
+    let rest = minus_one (bit_and (get_or set w 0) (get_or sources w 0)) (get_or gone w 0) k fits l in (
       λ d. let (x, out) = rest.0 d in let (y, z) = both.0 x in record { member = m.0 y; source = s.0 z; left = λ q. out (g.1 q) },
       λ h. rest.1 (both.1 (m.1 h.member, s.1 h.source), λ q. h.left (g.0 q)),
     )
 
--- a word with no digit more has no number of the property
-pub no_more : {P : ℕ → Type 0} {w word : ℕ} → Digits P w word → word ≡ 0
-    → ((k : ℕ) → k < 64 * w → ¬ P k) → (k : ℕ) → k < 64 * (w + 1) → ¬ P k
-no_more {w = w} digits zero before k l p =
-    elim (dec_lt k (64 * w)) [
-      | yes h ↦ before k h p
-      | no h ↦
-          let d = k - 64 * w in
-          let e : k ≡ 64 * w + d = omega arith in
-          none_of_zero d zero ((digits.each d (omega arith)).1 (rw e at p))
-    ]
+-- where no word has a digit that waits, nothing waits
+pub none_in_words : (P : ℕ → Type 0) → ((w k : ℕ) → w < 64 → k < 64 → ¬ P (64 * w + k)) → (k : ℕ) → k < 4096 → ¬ P k
+none_in_words P none k l p =
+    let at : k ≡ 64 * (k / 64) + k % 64 = omega arith in
+    none (k / 64) (k % 64) (omega arith) (omega arith) (rw at at p)
 
 -- from a source, every step along the axes counts
 pub steps_from : {t : Tree} {axes : Axes} {sources set more : List ℕ} {i : ℕ} → In sources i → Added (AlongAny t axes i) set more
@@ -95,23 +91,21 @@ pub gone_more : {gone after : List ℕ} {i : ℕ} → ((k : ℕ) → In gone k �
 gone_more {i = i} still low out x = grown still (λ same. out (same i low x))
 
 -- and by those of a word, where one waited and none does any more
-pub gone_word : {R : ℕ → ℕ → Type 0} {set sources gone more after : List ℕ} {w : ℕ} → w < 64 → WordWith (Waits set sources gone) w
+pub gone_word : {R : ℕ → ℕ → Type 0} {set sources gone more after : List ℕ} {w : ℕ} → WordWith (Waits set sources gone) (Some w)
     → GoneOn R set gone more after
     → ((k : ℕ) → k < 64 → ¬ Waits more sources after (64 * w + k)) → size_of gone < size_of after
-gone_word low (none e all) g left = absurd (omega arith)
-gone_word {after = after} {w} low (at k l low' waits) g left =
+gone_word {after = after} {w} (k, l, low, waits) g left =
     gone_more g.still (omega arith) waits.left
     (elim (dec_in after (64 * w + k)) [
       | yes x ↦ x
-      | no out ↦ absurd (left k low' (record { member = g.kept _ waits.member; source = waits.source; left = out }))
+      | no out ↦ absurd (left k low (record { member = g.kept _ waits.member; source = waits.source; left = out }))
     ])
 
--- behind the last word, all that may be gone on from has been
-pub none_waits : {set sources gone : List ℕ} {w : ℕ} → 64 ≤ w → WordWith (Waits set sources gone) w
+-- where no word has one that waits, all that may be gone on from has been
+pub none_waits : {set sources gone : List ℕ} → WordWith (Waits set sources gone) None
     → (k : ℕ) → k < 4096 → In set k → In sources k → In gone k
-none_waits last (at m l low' waits) k low x y = absurd (omega arith)
-none_waits {gone = gone} last (none e all) k low x y =
+none_waits {gone = gone} none k low x y =
     elim (dec_in gone k) [
       | yes z ↦ z
-      | no out ↦ absurd (all k low (record { member = x; source = y; left = out }))
+      | no out ↦ absurd (none k low (record { member = x; source = y; left = out }))
     ]

@@ -4,7 +4,7 @@ use Prim.Native.Nat.{ℕ, suc, ◌+◌, ◌≤◌, ◌<◌}
 use native.Mathlib.Numerals.{add-one}
 use native.Mathlib.Decide.{dec_lt}
 use native.Mathlib.Omega.{arith}
-use mathlib.Core.Path.{◌≡◌, sym, ◌∙◌}
+use mathlib.Core.Path.{◌≡◌, sym, subst, ◌∙◌}
 use mathlib.Core.Logic.{◌↔◌, ◌⊎◌, inl, inr, ⊎_elim}
 use mathlib.Core.List.{List}
 use lib.ListN.{get_or}
@@ -12,14 +12,23 @@ use Rattle.tree.specs.Tree.{Tree, Child, Next, InOrder}
 use Rattle.tree.proofs.Order.{child_above, above_le, child_less, child_node}
 use Rattle.tree.proofs.Siblings.{child_unique}
 use Rattle.tree.proofs.Runs.{end, in_run, behind_run, above_child, sibling_or_last, first_child}
-use Rattle.links.specs.Links.{Link, to, nowhere}
+use Rattle.std.specs.Prelude.{Option, Some, None}
+use Rattle.links.specs.Links.{Link, to, nowhere, LinkIs}
 use Rattle.steps.specs.Added.{FirstChild, Leads}
 
--- r is the first child of p from b on or, where there is none, a number behind all records
-pub record Waits (t : Tree) (p b r : ℕ) : Type 0 where
-  pub child : r < 4096 → Child t p r
-  pub first : (k : ℕ) → Child t p k → b ≤ k → r ≤ k
-  pub behind : b ≤ r
+-- where the record of an answer stands: behind all records where there is none
+abbrev pub place : Option ℕ → ℕ
+place (Some j) = j
+place None = 65535
+
+injective : {j k : ℕ} → Some j ≡ Some k → j ≡ k
+injective e = cc
+
+-- the answer is the first child of p from b on, if there is one
+pub record Waits (t : Tree) (p b : ℕ) (r : Option ℕ) : Type 0 where
+  pub child : (j : ℕ) → r ≡ Some j → (j < 4096) × Child t p j
+  pub first : (k : ℕ) → Child t p k → b ≤ k → place r ≤ k
+  pub behind : b ≤ place r
 
 module _ {t : Tree} (o : InOrder t) where
   -- a node with a child has one right behind it
@@ -35,12 +44,12 @@ module _ {t : Tree} (o : InOrder t) where
   no_first none j f = none (child_behind f.child)
 
   -- at first the first child waits
-  pub wait_all : {i r : ℕ} → Link (FirstChild t) i r → Waits t i 0 r
-  wait_all (to l f) = record { child = λ h. f.child; first = λ k d h. f.first k d; behind = omega arith }
-  wait_all {i} (nowhere f) =
+  pub wait_all : {i : ℕ} (r : Option ℕ) → LinkIs (FirstChild t) i r → Waits t i 0 r
+  wait_all {i} (Some j) (l, f) = record { child = λ k e. subst (λ (n : ℕ). (n < 4096) × Child t i n) (injective e) (l, f.child); first = λ k d h. f.first k d; behind = omega arith }
+  wait_all {i} None none =
       record {
-        child = λ h. absurd (omega arith);
-        first = λ k d h. absurd (f (i + 1) (first_behind (child_behind d)));
+        child = λ k e. cc;
+        first = λ k d h. absurd (none (i + 1) (first_behind (child_behind d)));
         behind = omega arith;
       }
 
@@ -58,28 +67,28 @@ module _ {t : Tree} (o : InOrder t) where
       ]
 
   -- behind a child, the one that its link leads to waits
-  pub wait_next : {p j r : ℕ} → j < 4096 → Child t p j → Link (Next t) j r → Waits t p (suc j) r
-  wait_next {p} {j} {r} l c (to l' n) =
+  pub wait_next : {p j : ℕ} (r : Option ℕ) → j < 4096 → Child t p j → LinkIs (Next t) j r → Waits t p (suc j) r
+  wait_next {p} {j} (Some m) l c (low, n) =
       let e = child_unique t n.left c in
       record {
-        child = λ h. rw e at n.right;
+        child = λ k same. subst (λ (x : ℕ). (x < 4096) × Child t p x) (injective same) (low, rw e at n.right);
         first = λ k d h.
-            elim (dec_lt k r) [
+            elim (dec_lt k m) [
               | yes g ↦ absurd (n.between k h g (rw e d))
               | no g ↦ omega arith
             ];
         behind = n.order;
       }
-  wait_next l c (nowhere none) =
+  wait_next None l c none =
       record {
-        child = λ h. absurd (omega arith);
+        child = λ k same. cc;
         first = λ k d h. absurd (last c none d h);
         behind = omega arith;
       }
 
 -- j and the children below it are the children below the next that waits
-pub passed : {t : Tree} {p j r : ℕ} → Child t p j → Waits t p (suc j) r
-    → (k : ℕ) → ((Child t p k × (k < j)) ⊎ (j ≡ k)) ↔ (Child t p k × (k < r))
+pub passed : {t : Tree} {p j : ℕ} {r : Option ℕ} → Child t p j → Waits t p (suc j) r
+    → (k : ℕ) → ((Child t p k × (k < j)) ⊎ (j ≡ k)) ↔ (Child t p k × (k < place r))
 passed {j = j} c waits k =
     let behind = waits.behind in (
       ⊎_elim (λ (d, l). (d, omega arith)) (λ e. (rw e at c, omega arith)),

@@ -1,5 +1,5 @@
 -- What a star along axes has gone on from, and what it has reached.
-use Rattle.std.specs.Prelude.{ℕ, ◌+◌, ◌*◌, ◌^◌, ◌<◌, ◌≡◌, ◌↔◌, ◌⊎◌, List}
+use Rattle.std.specs.Prelude.{ℕ, ◌+◌, ◌*◌, ◌^◌, ◌<◌, ◌≡◌, ◌↔◌, ◌⊎◌, List, Option, Some, None}
 use Rattle.tree.specs.Tree.{Tree}
 use Rattle.query.specs.Meaning.{Star}
 use Rattle.sets.specs.Bits.{digit}
@@ -23,10 +23,10 @@ pub record Digits (P : ℕ → Type 0) (w word : ℕ) : Type 0 where
   pub each : (k : ℕ) → k < 64 → (digit word k ≡ 1) ↔ P (64 * w + k)
   pub fits : word < 2 ^ 64
 
--- w is a word with a number of the property, or 64 where no number of a set has it
-pub data WordWith (P : ℕ → Type 0) (w : ℕ) : Type 0 where
-  at : (k : ℕ) → w < 64 → k < 64 → P (64 * w + k) → WordWith P w
-  none : w ≡ 64 → ((k : ℕ) → k < 4096 → ¬ P k) → WordWith P w
+-- a word with a number of the property, or none where no number of a set has it
+abbrev pub WordWith : (ℕ → Type 0) → Option ℕ → Type 0
+WordWith P (Some w) = (k : ℕ) × (w < 64) × (k < 64) × P (64 * w + k)
+WordWith P None = (k : ℕ) → k < 4096 → ¬ P k
 
 -- From `set`, of which `gone` has been gone on from, it came to `more` and `after`: what is new was reached, and all that is new in `after`
 -- has been gone on from.

@@ -7,19 +7,19 @@ ghost use Rattle.steps.specs.Axis.{AlongAny};
 ghost use Rattle.steps.specs.Added.{Added, LedTo};
 
 use crate::axis::Axes;
-use crate::reach::add_along;
+use crate::walk::Walk;
+use sets::Ones;
 
-// Adds what a step reaches from the members in one word, the w-th: the lowest member is taken out until none is left.
-fn add_word(roll: &[u8], links: &[u16; 8192], axes: Axes, w: usize, word: u64, out: &mut [u64; 64])
-    requires roll { Roll roll.now × Siblings (nodes roll.now) links.now }
-    requires w_bound { w < 64 }
-    ensures { Added (LedTo (λ k. AlongAny (nodes roll.now) axes (64 * w + k)) word) out.old out.new }
-{
-    let mut rest = word;
-    while rest != 0 {
-        let k = u64::trailing_zeros(rest);
-        rest = rest ^ (1 << k);
-        add_along(roll, links, axes, 64 * w + k as usize, out);
+impl Walk<'_> {
+    // Adds what a step reaches from the members in one word, the w-th.
+    fn add_word(&self, w: usize, word: u64, out: &mut [u64; 64])
+        requires roll { Roll self.now.roll.now × Siblings (nodes self.now.roll.now) self.now.links.now }
+        requires w_bound { w < 64 }
+        ensures { Added (LedTo (λ k. AlongAny (nodes self.now.roll.now) self.now.axes (64 * w + k)) word) out.old out.new }
+    {
+        for k in Ones(word) {
+            self.add_along(64 * w + k, out);
+        }
     }
 }
 
@@ -28,11 +28,10 @@ pub fn step(roll: &[u8], links: &[u16; 8192], axes: Axes, from: [u64; 64]) -> [u
     requires { Roll roll.now × Siblings (nodes roll.now) links.now }
     ensures { Image (AlongAny (nodes roll.now) axes) from result }
 {
+    let walk = Walk { roll, links, axes };
     let mut out = [0u64; 64];
-    let mut w = 0;
-    while w < 64 {
-        add_word(roll, links, axes, w, from[w], &mut out);
-        w += 1;
+    for (w, word) in from.iter().enumerate() {
+        walk.add_word(w, *word, &mut out);
     }
     out
 }

@@ -1,5 +1,5 @@
 // The four axes, and several of them at once.
-ghost use Rattle.std.specs.Prelude.{ℕ, ◌↔◌, ◌⊎◌, T};
+ghost use Rattle.std.specs.Prelude.{ℕ, ◌↔◌, ◌⊎◌};
 ghost use Rattle.tree.specs.Tree.{Tree};
 ghost use Rattle.steps.specs.Axis.{Along, AlongAny};
 
@@ -32,6 +32,14 @@ pub fn turned(axis: Axis) -> Axis
     }
 }
 
+// No axis.
+const NONE: Axes = Axes {
+    child: false,
+    parent: false,
+    next: false,
+    previous: false,
+};
+
 // One axis alone.
 pub fn only(axis: Axis) -> Axes
     ensures { (t : Tree) (i j : ℕ) → AlongAny t result i j ↔ Along t axis i j }
@@ -39,49 +47,28 @@ pub fn only(axis: Axis) -> Axes
     match axis {
         Axis::Child => Axes {
             child: true,
-            parent: false,
-            next: false,
-            previous: false,
+            ..NONE
         },
         Axis::Parent => Axes {
-            child: false,
             parent: true,
-            next: false,
-            previous: false,
+            ..NONE
         },
-        Axis::Next => Axes {
-            child: false,
-            parent: false,
-            next: true,
-            previous: false,
-        },
+        Axis::Next => Axes { next: true, ..NONE },
         Axis::Previous => Axes {
-            child: false,
-            parent: false,
-            next: false,
             previous: true,
+            ..NONE
         },
     }
-}
-
-fn or(a: bool, b: bool) -> bool
-    ensures { T result ↔ (T a ⊎ T b) }
-{
-    if a { true } else { b }
 }
 
 // The axes of either.
 pub fn both(a: Axes, b: Axes) -> Axes
     ensures { (t : Tree) (i j : ℕ) → AlongAny t result i j ↔ (AlongAny t a i j ⊎ AlongAny t b i j) }
 {
-    let child = or(a.child, b.child);
-    let parent = or(a.parent, b.parent);
-    let next = or(a.next, b.next);
-    let previous = or(a.previous, b.previous);
     Axes {
-        child,
-        parent,
-        next,
-        previous,
+        child: a.child | b.child,
+        parent: a.parent | b.parent,
+        next: a.next | b.next,
+        previous: a.previous | b.previous,
     }
 }

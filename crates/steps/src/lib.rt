@@ -8,6 +8,7 @@ mod axis;
 mod label;
 mod reach;
 mod star;
+mod walk;
 
 pub use along::step;
 pub use axis::{Axes, Axis, both, only, turned};

@@ -1,117 +1,98 @@
-// What a step along an axis reaches from one node.
-ghost use Rattle.std.specs.Prelude.{◌≡◌, ◌<◌, T, get_or};
-ghost use Rattle.tree.specs.Tree.{Child, Next};
+// What a step along axes reaches from one node.
+ghost use Rattle.std.specs.Prelude.{◌<◌, get_or};
+ghost use Rattle.tree.specs.Tree.{Child};
 ghost use Rattle.roll.specs.Roll.{nodes, Roll};
-ghost use Rattle.links.specs.Links.{Link, Linked, next, Siblings};
-ghost use Rattle.steps.specs.Axis.{Along, AlongAny};
+ghost use Rattle.links.specs.Links.{LinkIs, NumberIs, Siblings};
+ghost use Rattle.steps.specs.Axis.{AlongAny};
 ghost use Rattle.steps.specs.Added.{Added, FirstChild, Leads};
 
-use crate::axis::{Axes, Axis};
+use crate::walk::Walk;
 use links::NONE;
 use roll::{count, parent_at};
 use sets::add;
 
-// A link as a number.
-pub fn link_at(links: &[u16; 8192], i: usize) -> usize
+// Where a link leads, if it leads anywhere.
+pub fn link_at(links: &[u16; 8192], i: usize) -> Option<usize>
     requires { i < 8192 }
-    ensures { result ≡ get_or links.now i 65535 }
+    ensures { NumberIs (get_or links.now i 65535) result }
 {
-    let all: &[u16] = links;
-    all[i] as usize
+    let link = links[i];
+    if link == NONE {
+        return None;
+    }
+    Some(usize::from(link))
 }
 
 // The first child of i is the record behind i, if i is its parent.
-pub fn first_child(roll: &[u8], i: usize) -> usize
+pub fn first_child(roll: &[u8], i: usize) -> Option<usize>
     requires roll { Roll roll.now }
     requires i_bound { i < 4096 }
-    ensures { Link (FirstChild (nodes roll.now)) i result }
+    ensures { LinkIs (FirstChild (nodes roll.now)) i result }
 {
     let first = i + 1;
     if count(roll) <= first {
-        return NONE as usize;
+        return None;
     }
     if parent_at(roll, first) == i {
-        return first;
+        return Some(first);
     }
-    NONE as usize
+    None
 }
 
-// Adds the children of i, from the first one on from sibling to sibling.
-fn add_children(roll: &[u8], links: &[u16; 8192], i: usize, out: &mut [u64; 64])
-    requires roll { Roll roll.now × Linked (Next (nodes roll.now)) (next links.now) }
-    requires i_bound { i < 4096 }
-    ensures { Added (Child (nodes roll.now) i) out.old out.new }
-{
-    let mut j = first_child(roll, i);
-    while j < 4096 {
-        add(out, j);
-        j = link_at(links, j);
-    }
-}
-
-// Adds the parent of i.
-fn add_parent(roll: &[u8], i: usize, out: &mut [u64; 64])
-    requires { Roll roll.now }
-    ensures { Added (λ j. Child (nodes roll.now) j i) out.old out.new }
-{
-    if 0 < i {
-        if i < count(roll) {
-            add(out, parent_at(roll, i));
+impl Walk<'_> {
+    // Adds the children of i, from the first one on from sibling to sibling.
+    fn add_children(&self, i: usize, out: &mut [u64; 64])
+        requires roll { Roll self.now.roll.now × Siblings (nodes self.now.roll.now) self.now.links.now }
+        requires i_bound { i < 4096 }
+        ensures { Added (Child (nodes self.now.roll.now) i) out.old out.new }
+    {
+        let mut next = first_child(self.roll, i);
+        while let Some(j) = next {
+            add(out, j);
+            next = link_at(self.links, j);
         }
     }
-}
 
-// Adds where the i-th link leads.
-fn add_linked(links: &[u16; 8192], i: usize, out: &mut [u64; 64])
-    requires { i < 8192 }
-    ensures { Added (Leads links.now i) out.old out.new }
-{
-    let j = link_at(links, i);
-    if j < 4096 {
-        add(out, j);
+    // Adds the parent of i.
+    fn add_parent(&self, i: usize, out: &mut [u64; 64])
+        requires { Roll self.now.roll.now × Siblings (nodes self.now.roll.now) self.now.links.now }
+        ensures { Added (λ j. Child (nodes self.now.roll.now) j i) out.old out.new }
+    {
+        if 0 < i {
+            if i < count(self.roll) {
+                add(out, parent_at(self.roll, i));
+            }
+        }
     }
-}
 
-// Adds what a step along the axis reaches from i.
-fn add_reached(roll: &[u8], links: &[u16; 8192], axis: Axis, i: usize, out: &mut [u64; 64])
-    requires roll { Roll roll.now × Siblings (nodes roll.now) links.now }
-    requires i_bound { i < 4096 }
-    ensures { Added (Along (nodes roll.now) axis i) out.old out.new }
-{
-    match axis {
-        Axis::Child => add_children(roll, links, i, out),
-        Axis::Parent => add_parent(roll, i, out),
-        Axis::Next => add_linked(links, i, out),
-        Axis::Previous => add_linked(links, 4096 + i, out),
+    // Adds where the link leads that stands at a place.
+    fn add_linked(&self, place: usize, out: &mut [u64; 64])
+        requires roll { Roll self.now.roll.now × Siblings (nodes self.now.roll.now) self.now.links.now }
+        requires place_bound { place < 8192 }
+        ensures { Added (Leads self.now.links.now place) out.old out.new }
+    {
+        if let Some(j) = link_at(self.links, place) {
+            add(out, j);
+        }
     }
-}
 
-// Adds what a step along the axis reaches from i, if the axis is taken.
-fn add_taken(
-    roll: &[u8],
-    links: &[u16; 8192],
-    axis: Axis,
-    taken: bool,
-    i: usize,
-    out: &mut [u64; 64],
-)
-    requires roll { Roll roll.now × Siblings (nodes roll.now) links.now }
-    requires i_bound { i < 4096 }
-    ensures { Added (λ j. T taken × Along (nodes roll.now) axis i j) out.old out.new }
-{
-    if taken {
-        add_reached(roll, links, axis, i, out);
+    // Adds what a step along one of the axes reaches from i.
+    pub(crate) fn add_along(&self, i: usize, out: &mut [u64; 64])
+        requires roll { Roll self.now.roll.now × Siblings (nodes self.now.roll.now) self.now.links.now }
+        requires i_bound { i < 4096 }
+        ensures { Added (AlongAny (nodes self.now.roll.now) self.now.axes i) out.old out.new }
+    {
+        if self.axes.child {
+            self.add_children(i, out);
+        }
+        if self.axes.parent {
+            self.add_parent(i, out);
+        }
+        if self.axes.next {
+            self.add_linked(i, out);
+        }
+        if self.axes.previous {
+            self.add_linked(4096 + i, out);
+        }
     }
-}
-
-// Adds what a step along one of the axes reaches from i.
-pub(crate) fn add_along(roll: &[u8], links: &[u16; 8192], axes: Axes, i: usize, out: &mut [u64; 64])
-    requires roll { Roll roll.now × Siblings (nodes roll.now) links.now }
-    requires i_bound { i < 4096 }
-    ensures { Added (AlongAny (nodes roll.now) axes i) out.old out.new }
-{
-    add_taken(roll, links, Axis::Child, axes.child, i, out);
-    add_taken(roll, links, Axis::Parent, axes.parent, i, out);
-    add_taken(roll, links, Axis::Next, axes.next, i, out);
-    add_taken(roll, links, Axis::Previous, axes.previous, i, out);
 }

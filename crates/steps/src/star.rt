@@ -7,55 +7,41 @@ ghost use Rattle.links.specs.Links.{Siblings};
 ghost use Rattle.steps.specs.Star.{Waits, Digits, WordWith, StepFrom, GoneOn};
 
 use crate::axis::Axes;
-use crate::reach::add_along;
-use sets::{add, empty};
+use crate::walk::Walk;
+use sets::{Ones, add, empty};
 
 // The digits of word w whose nodes wait: they are in the set and may be gone on from, and that has not been done.
 fn waiting(set: &[u64; 64], sources: &[u64; 64], gone: &[u64; 64], w: usize) -> u64
     requires { w < 64 }
     ensures { Digits (Waits set.now sources.now gone.now) w result }
 {
-    let members: &[u64] = set;
-    let open: &[u64] = sources;
-    let done: &[u64] = gone;
-    ((members[w] & open[w]) | done[w]) ^ done[w]
+    set[w] & sources[w] & !gone[w]
 }
 
-// The first word with a node that waits, or 64.
-fn first_waiting(set: &[u64; 64], sources: &[u64; 64], gone: &[u64; 64]) -> usize
+// The first word with a node that waits.
+fn first_waiting(set: &[u64; 64], sources: &[u64; 64], gone: &[u64; 64]) -> Option<usize>
     ensures { WordWith (Waits set.now sources.now gone.now) result }
 {
-    let mut w = 0;
-    while w < 64 {
+    for w in 0..64 {
         if waiting(set, sources, gone, w) != 0 {
-            return w;
+            return Some(w);
         }
-        w += 1;
     }
-    w
+    None
 }
 
-// Goes on from the nodes of word w that wait, until there are none.
-fn go_on(
-    roll: &[u8],
-    links: &[u16; 8192],
-    axes: Axes,
-    sources: &[u64; 64],
-    w: usize,
-    set: &mut [u64; 64],
-    gone: &mut [u64; 64],
-)
-    requires roll { Roll roll.now × Siblings (nodes roll.now) links.now }
-    requires w_bound { w < 64 }
-    ensures gone_on { GoneOn (StepFrom (nodes roll.now) axes sources.now) set.old gone.old set.new gone.new }
-    ensures by_index { (k : ℕ) → k < 64 → ¬ Waits set.new sources.now gone.new (64 * w + k) }
-{
-    let mut rest = waiting(set, sources, gone, w);
-    while rest != 0 {
-        let i = 64 * w + u64::trailing_zeros(rest) as usize;
-        add(gone, i);
-        add_along(roll, links, axes, i, set);
-        rest = waiting(set, sources, gone, w);
+impl Walk<'_> {
+    // Goes on from the nodes of word w that wait, from the lowest up, until there are none.
+    fn go_on(&self, sources: &[u64; 64], w: usize, set: &mut [u64; 64], gone: &mut [u64; 64])
+        requires roll { Roll self.now.roll.now × Siblings (nodes self.now.roll.now) self.now.links.now }
+        requires w_bound { w < 64 }
+        ensures gone_on { GoneOn (StepFrom (nodes self.now.roll.now) self.now.axes sources.now) set.old gone.old set.new gone.new }
+        ensures by_index { (k : ℕ) → k < 64 → ¬ Waits set.new sources.now gone.new (64 * w + k) }
+    {
+        while let Some(k) = Ones(waiting(set, sources, gone, w)).next() {
+            add(gone, 64 * w + k);
+            self.add_along(64 * w + k, set);
+        }
     }
 }
 
@@ -70,12 +56,11 @@ pub fn closure(
     requires { Roll roll.now × Siblings (nodes roll.now) links.now }
     ensures { Image (Star (StepFrom (nodes roll.now) axes sources)) from result }
 {
+    let walk = Walk { roll, links, axes };
     let mut set = from;
     let mut gone = empty();
-    let mut w = first_waiting(&set, &sources, &gone);
-    while w < 64 {
-        go_on(roll, links, axes, &sources, w, &mut set, &mut gone);
-        w = first_waiting(&set, &sources, &gone);
+    while let Some(w) = first_waiting(&set, &sources, &gone) {
+        walk.go_on(&sources, w, &mut set, &mut gone);
     }
     set
 }

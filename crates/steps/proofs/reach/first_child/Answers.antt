@@ -2,22 +2,14 @@
 use Prim.Native.Nat.{◌+◌, ◌<◌}
 use native.Mathlib.Omega.{arith}
 use mathlib.Core.Path.{◌≡◌}
-use Rattle.tree.specs.Tree.{parent_at, Child}
+use Rattle.tree.specs.Tree.{parent_at}
 use Rattle.roll.specs.Roll.{nodes}
 use Rattle.roll.proofs.Deciding.{roll_in_order, roll_most}
-use Rattle.links.specs.Links.{Link, to, nowhere}
-use Rattle.steps.specs.Added.{FirstChild}
 use Rattle.steps.proofs.Reaching.{first_behind, no_first}
 use Rattle.steps.proofs.reach.first_child.Goals as goal
-use Rattle.steps.proofs.reach.first_child.Goals.{After-count}
-
--- where the record behind i is no child, there is no first child
-none : (c : After-count) → let a = c.args in let t = nodes a.roll.now in
-    ¬ Child t a.i (a.i + 1) → Link (FirstChild t) a.i 65535
-none c h = nowhere (no_first (roll_in_order c.requires.roll) h)
 
 pub returns-then-count-first : goal.returns-then-count-first
-returns-then-count-first c = none (goal.at.returns-then-count-first c).After-count (λ d. let l = d.node in omega arith)
+returns-then-count-first c = no_first (roll_in_order c.requires.roll) (λ d. let l = d.node in omega arith)
 
 pub returns-then-parent_at-i : goal.returns-then-parent_at-i
 returns-then-parent_at-i c =
@@ -25,7 +17,7 @@ returns-then-parent_at-i c =
     let i = c.args.i in
     let parent : parent_at t (i + 1) ≡ i = omega (arith, c.parent_at.ensures) in
     let low : i + 1 < 4096 = omega (arith, roll_most c.requires.roll) in
-    to low (first_behind (roll_in_order c.requires.roll) (record { later = omega arith; node = omega arith; parent = parent }))
+    (low, first_behind (roll_in_order c.requires.roll) (record { later = omega arith; node = omega arith; parent = parent }))
 
 pub returns : goal.returns
-returns c = none (goal.at.returns c).After-count (λ d. omega (arith, c.parent_at.ensures, d.parent))
+returns c = no_first (roll_in_order c.requires.roll) (λ d. omega (arith, c.parent_at.ensures, d.parent))

@@ -2,12 +2,12 @@
 use Prim.Native.Nat.{◌-◌}
 use Rattle.roll.specs.Roll.{nodes}
 use Rattle.sets.proofs.Size.{size_of}
-use Rattle.steps.specs.Star.{Waits, WordWith, StepFrom, GoneOn}
+use Rattle.steps.specs.Star.{StepFrom, GoneOn}
 use Rattle.steps.proofs.star.closure.Given as goal
 
 abbrev pub invariant-loop-w : goal.invariant-loop-w
 invariant-loop-w l =
-    GoneOn (StepFrom (nodes l.roll) l.axes l.sources) l.initial.set l.initial.gone l.set l.gone × WordWith (Waits l.set l.sources l.gone) l.w
+    GoneOn (StepFrom (nodes l.walk.roll.now) l.walk.axes l.sources) l.initial.set l.initial.gone l.set l.gone
 
 abbrev pub decreases-loop-w : goal.decreases-loop-w
 decreases-loop-w l = 4096 - size_of l.gone

@@ -2,8 +2,8 @@
 use borrow.Author.Rules.{rules}
 use mir.Syntax.{w64}
 use mir.Val.{Fits}
+use mir.Facts.{Fits-and}
 use lib.ListN.{get_or}
-use mir.Facts.{Fits-and, Fits-or, Fits-xor}
 use Rattle.steps.proofs.Going.{waiting_word}
 use Rattle.steps.proofs.star.waiting.Goals as goal
 
@@ -13,6 +13,6 @@ returns c =
     let of_gone : Fits w64 (get_or a.gone.now a.w 0) = search rules in
     let of_set : Fits w64 (get_or a.set.now a.w 0) = search rules in
     record {
-      each = waiting_word a.set.now a.sources.now a.gone.now a.w;
-      fits = (Fits-xor (Fits-or (Fits-and _ of_set) of_gone) of_gone).fits;
+      each = λ k l. waiting_word a.set.now a.sources.now a.gone.now a.w k of_gone.fits l;
+      fits = (Fits-and _ (Fits-and _ of_set)).fits;
     }
