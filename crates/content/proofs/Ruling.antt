@@ -4,13 +4,15 @@ use native.Mathlib.Decide.{dec_lt}
 use native.Mathlib.Omega.{arith}
 use mathlib.Core.Path.{◌≡◌, sym, ◌∙◌}
 use mathlib.Core.Logic.{◌↔◌}
+use mathlib.Core.List.{List}
 use lib.ListN.{length}
+use Rattle.std.specs.Prelude.{Option, IfSome}
 use Rattle.reply.specs.Bytes.{Bytes}
 use Rattle.tree.specs.Tree.{Tree, label_at}
 use Rattle.query.specs.Table.{entries}
 use Rattle.query.proofs.Tables.{entries_length}
 use Rattle.rules.specs.Rules.{listed, AboveLast, Rules, word, Allowed}
-use Rattle.content.specs.Content.{NamedBelow, named, unnamed, Obeys}
+use Rattle.content.specs.Content.{NamedBelow, named, unnamed, ByLabel, NamesEntries, Obeys}
 
 module _ {rules list : Bytes} (right : Rules rules list) where
   -- a later record has a greater label
@@ -40,19 +42,23 @@ module _ {rules list : Bytes} (right : Rules rules list) where
       go (no x) (yes y) = absurd (later y l (sym same))
       go (no x) (no y) = omega arith
 
-  -- no table of entries has 65,535 of them
   pub few : length (entries rules) ≤ 256
   few = omega (arith, entries_length rules, right.size.of_entries.most)
 
+  -- the list names entries
+  pub names_entries : {table : List (Option ℕ)} → ByLabel list table → NamesEntries (entries rules) table
+  names_entries by l most = inside (by.each l most)
+    where
+      inside : {x : Option ℕ} → NamedBelow (listed list) (length (listed list)) l x → IfSome x (λ e. e < length (entries rules))
+      inside (named {k = k} h e) = (right.each k h).named
+      inside (unnamed none) = tt
+
   -- a node's children are allowed if they are a word of the entry that its label is named for, where there is such an entry
   module _ {t : Tree} {i : ℕ} where
-    pub ruled : {x : ℕ} → NamedBelow (listed list) (length (listed list)) (label_at t i) x
+    pub ruled : {x : Option ℕ} → NamedBelow (listed list) (length (listed list)) (label_at t i) x
         → Obeys (entries rules) x (word t i) ↔ Allowed rules list t i
     ruled (named {k = k} l e) = (
-      λ f. record { ruled = λ m h same. let one = one_record l h (e ∙ sym same) in rw (← one) (f (right.each k l).named) },
-      λ a within. a.ruled k l e,
+      λ f. record { ruled = λ m h same. let one = one_record l h (e ∙ sym same) in rw (← one) f },
+      λ a. a.ruled k l e,
     )
-    ruled (unnamed none) = (
-      λ f. record { ruled = λ m h same. absurd (none m h same) },
-      λ a within. absurd (omega (arith, few)),
-    )
+    ruled (unnamed none) = (λ f. record { ruled = λ m h same. absurd (none m h same) }, λ a. tt)
