@@ -52,7 +52,7 @@ fn check_record(annotation: &[u8], filters: &[u8], i: usize) -> Reply
 pub fn check_annotation(annotation: &[u8], filters: &[u8]) -> Reply
     ensures { AnnotationChecked annotation.now filters.now (said result) }
 {
-    if !whole(annotation, RECORDS) {
+    if !whole::<6>(annotation, RECORDS) {
         return refuse(Reason::AnnotationLength, 0);
     }
     let n = count(annotation);

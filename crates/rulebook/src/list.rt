@@ -1,24 +1,12 @@
 // The list of rules: "four-byte list records (label, zero, entry number)". They lie as the records of nodes do, and are read there.
 ghost use Rattle.std.specs.Prelude.{◌↔◌, ◌<◌, T, length};
 ghost use Rattle.reply.specs.Reply.{said};
-ghost use Rattle.reply.specs.Bytes.{Whole};
 ghost use Rattle.rules.specs.Rules.{listed, AboveLast, RecordFits};
 ghost use Rattle.rulebook.specs.Rulebook.{ListChecked};
 
-use reply::{LISTED, Reason, Reply, refuse};
+use reply::{Reason, Reply, refuse};
 use roll::{count, label_at, parent_at, second_fits};
 use tree::is_label;
-
-// The bytes of as many records as a list may have.
-const LONGEST: usize = 4 * LISTED;
-
-// Whether the list is whole records, and not too many.
-pub(crate) fn whole(list: &[u8]) -> bool
-    ensures { T result ↔ Whole 4 64 list.now }
-{
-    let length = list.len();
-    (length % 4 == 0) & (length <= LONGEST)
-}
 
 // "labels strictly ascending": whether the label of record k is above the one before.
 fn ascends(list: &[u8], k: usize) -> bool

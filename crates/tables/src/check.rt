@@ -1,5 +1,5 @@
 // The check of a query table and of a filter table: one walk over the entries serves both.
-ghost use Rattle.std.specs.Prelude.{◌≡◌, ◌↔◌, ◌≤◌, T, length};
+ghost use Rattle.std.specs.Prelude.{◌≡◌, ◌↔◌, ◌*◌, ◌^◌, ◌<◌, ◌≤◌, T, length};
 ghost use Rattle.reply.specs.Reply.{said};
 ghost use Rattle.reply.specs.Bytes.{Whole};
 ghost use Rattle.query.specs.Table.{entries as entriesOf};
@@ -32,13 +32,14 @@ fn check_entries(table: &[u8], height: u16) -> Reply
     Ok(n)
 }
 
-// Whether the table is whole entries, and at most as many as given.
-pub fn whole(table: &[u8], entries: usize) -> bool
-    requires { entries ≤ 1024 }
-    ensures { T result ↔ Whole 6 entries table.now }
+// Whether the table is whole records of so many bytes each, and at most as many as given.
+pub fn whole<const SIZE: usize>(table: &[u8], records: usize) -> bool
+    requires size_nonzero { 0 < SIZE }
+    requires fits { SIZE * records < 2 ^ 64 }
+    ensures { T result ↔ Whole SIZE records table.now }
 {
     let length = table.len();
-    (length % 6 == 0) & (length <= 6 * entries)
+    (length % SIZE == 0) & (length <= SIZE * records)
 }
 
 // "12 for length, lowest entry 8, 9, then 12 for the last entry"
@@ -46,7 +47,7 @@ pub fn check_query(table: &[u8], entries: usize, height: u16) -> Reply
     requires { entries ≤ 1024 }
     ensures { QueryChecked (record { entries = entries; height = height }) table.now (said result) }
 {
-    let fits = (0 < table.len()) & whole(table, entries);
+    let fits = (0 < table.len()) & whole::<6>(table, entries);
     if !fits {
         return refuse(Reason::QueryTable, 0);
     }
@@ -62,7 +63,7 @@ pub fn check_query(table: &[u8], entries: usize, height: u16) -> Reply
 pub fn check_filters(table: &[u8]) -> Reply
     ensures { FilterChecked table.now (said result) }
 {
-    if !whole(table, FILTER_ENTRIES) {
+    if !whole::<6>(table, FILTER_ENTRIES) {
         return refuse(Reason::FilterLength, 0);
     }
     check_entries(table, FILTER_HEIGHT)
