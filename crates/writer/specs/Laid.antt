@@ -1,11 +1,12 @@
 -- What the writer must be given, and what an entry that it writes is. Nothing here has to be believed: call 5's promise is stated without it.
-use Rattle.std.specs.Prelude.{ℕ, ◌+◌, ◌*◌, ◌≤◌, ◌<◌, length}
+use Rattle.std.specs.Prelude.{ℕ, ◌+◌, ◌*◌, ◌≤◌, ◌<◌, ◌≡◌, length}
 use Rattle.reply.specs.Bytes.{Bytes}
-use Rattle.query.specs.Table.{Entry}
+use Rattle.query.specs.Table.{Entry, Entries}
 use Rattle.view.specs.Annotation.{records, record_at}
-use Rattle.tables.specs.Laid.{fields}
+use Rattle.tables.specs.Laid.{laid, fields}
 use Rattle.tables.specs.Kind.{number}
 use Rattle.writer.specs.declared.entry.Entry as writer
+use Rattle.writer.specs.declared.part.Part.{Part}
 
 -- There is room for so many entries behind n others.
 pub record Room (out : Bytes) (n many : ℕ) : Type 0 where
@@ -37,3 +38,10 @@ as_entry own = fields (number own.kind) own.label own.left own.right
 -- its operands are numbers of two bytes
 abbrev pub SmallOperands : writer.Entry → Type 0
 SmallOperands own = Short own.left × Short own.right
+
+-- In the same lent bytes entries are written behind those that the part had.
+pub record Lays (before : Part) (es : Entries) (after : Part) : Type 0 where
+  pub same : after.out.ghost_name ≡ before.out.ghost_name
+  pub long : length after.out.now ≡ length before.out.now
+  pub end : after.at ≡ before.at + length es
+  pub bytes : after.out.now ≡ laid before.out.now before.at es

@@ -1,10 +1,9 @@
 // An entry that is to be written, and the same with its operands elsewhere.
-ghost use Rattle.std.specs.Prelude.{◌≡◌, [], ◌∷◌, ◌+◌, map, length};
+ghost use Rattle.std.specs.Prelude.{◌≡◌, ◌+◌};
 ghost use Rattle.written.specs.Written.{entry, label_entry, moved, raise};
 ghost use Rattle.tables.specs.Kind.{number};
 ghost use Rattle.tables.specs.Shape.{operand};
-ghost use Rattle.tables.specs.Laid.{laid};
-ghost use Rattle.writer.specs.Laid.{Room, Short, SmallOperands, as_entry};
+ghost use Rattle.writer.specs.Laid.{Short, SmallOperands, as_entry};
 
 use tables::{Kind, Sort, shape_of};
 
@@ -64,24 +63,5 @@ impl Entry {
             right: raised_operand(shape.right, self.right, distance),
             ..self
         }
-    }
-
-    // Writes it as entry `at` of the part.
-    pub(crate) fn put(self, out: &mut [u8], at: usize)
-        requires { Room out.old at 1 }
-        ensures { out.new ≡ laid out.old at (as_entry self ∷ []) }
-    {
-        let kind = u8::from(self.kind);
-        tables::put(out, at, kind, self.label, self.left, self.right);
-    }
-}
-
-// Writes entries one behind another, from entry `at` of the part on.
-pub(crate) fn put_all(out: &mut [u8], at: usize, entries: &[Entry])
-    requires { Room out.old at (length entries.now) }
-    ensures { out.new ≡ laid out.old at (map as_entry entries.now) }
-{
-    for (k, own) in entries.iter().enumerate() {
-        own.put(out, at + k);
     }
 }

@@ -5,6 +5,7 @@
 mod entry;
 // public for a wrong build of call 5 that writes the filter table by it: crate rewrite, must-fail edit annotation_rewritten
 pub mod moved;
+mod part;
 mod prelude;
 mod records;
 mod rows;

@@ -7,6 +7,7 @@ ghost use Rattle.tables.specs.Promise.{EntriesRight};
 ghost use Rattle.writer.specs.Laid.{Room, Short, SmallOperands, as_entry};
 
 use crate::entry::Entry;
+use crate::part::Part;
 use crate::rows::row_at;
 use tables::{Kind, count, entry_at, kind_of};
 
@@ -57,8 +58,9 @@ pub fn write_query(out: &mut [u8], at: usize, query: &[u8], axes: usize, distanc
     requires short { Short (length (entries query.now)) × (Short axes × Short distance) }
     ensures { out.new ≡ laid out.old at (map (view_entry axes distance) (entries query.now)) }
 {
+    let mut part = Part { out, at };
     for i in 0..count(query) {
         let own = own_entry(query, i);
-        stand_in(own, axes, distance).put(out, at + i);
+        part.put(stand_in(own, axes, distance));
     }
 }

@@ -3,20 +3,21 @@ ghost use Rattle.std.specs.Prelude.{◌≡◌, length};
 ghost use Rattle.view.specs.Annotation.{records};
 ghost use Rattle.written.specs.Written.{opening, prelude, prelude_size};
 ghost use Rattle.tables.specs.Laid.{laid};
-ghost use Rattle.writer.specs.Laid.{Room, LabelBytes, Numbers};
+ghost use Rattle.writer.specs.Laid.{Room, Lays, LabelBytes, Numbers};
 
-use crate::entry::{Entry, put_all};
-use crate::records::write_records;
-use crate::rows::write_rows;
+use crate::entry::Entry;
+use crate::part::Part;
 use tables::Kind;
 
-// Writes the opening: the parent step, and that no record is the node's or shows it.
-fn write_opening(out: &mut [u8])
-    requires { Room out.old 0 3 }
-    ensures { out.new ≡ laid out.old 0 opening }
-{
-    let none = Entry::of(Kind::Never, 0, 0);
-    put_all(out, 0, &[Entry::of(Kind::Parent, 0, 0), none, none]);
+impl<'a> Part<'a> {
+    // The opening: the parent step, and that no record is the node's or shows it.
+    fn put_opening(&mut self)
+        requires { Room self.old.out.now self.old.at 3 }
+        ensures { Lays self.old opening self.new }
+    {
+        let none = Entry::of(Kind::Never, 0, 0);
+        self.put_all(&[Entry::of(Kind::Parent, 0, 0), none, none]);
+    }
 }
 
 // Writes all that stands before the query; gives the number of entries. `first` is the number of the part's first entry.
@@ -27,8 +28,10 @@ pub(crate) fn write_prelude(out: &mut [u8], annotation: &[u8], first: usize) -> 
     ensures value { result ≡ prelude_size (length (records annotation.now)) }
     ensures out_after { out.new ≡ laid out.old 0 (prelude first (records annotation.now)) }
 {
-    write_opening(out);
-    let at = write_records(out, annotation, first);
-    write_rows(out, at, first + at - 2);
-    at + 56
+    let mut part = Part { out, at: 0 };
+    part.put_opening();
+    part.put_records(annotation, first);
+    let at = part.at;
+    part.put_rows(first + at - 2);
+    part.at
 }

@@ -2,10 +2,10 @@
 ghost use Rattle.std.specs.Prelude.{◌≡◌, map, ◌+◌, ◌*◌, ◌≤◌, ◌<◌, length};
 ghost use Rattle.view.specs.Annotation.{records};
 ghost use Rattle.written.specs.Written.{nine_entries, records_entries};
-ghost use Rattle.tables.specs.Laid.{laid};
-ghost use Rattle.writer.specs.Laid.{Room, LabelBytes, Numbers, as_entry};
+ghost use Rattle.writer.specs.Laid.{Room, Lays, LabelBytes, Numbers, as_entry};
 
-use crate::entry::{Entry, put_all};
+use crate::entry::Entry;
+use crate::part::Part;
 use checks::{count, record_at};
 use tables::Kind;
 
@@ -29,27 +29,22 @@ fn nine(up: usize, b: usize, parent: u8, child: u8, filter: usize) -> [Entry; 9]
     ]
 }
 
-// Writes the entries of all records behind the opening, the last record first; gives the number of entries that the part then has. The
-// part's first entry is the parent step, and has the number `first`.
-pub(crate) fn write_records(out: &mut [u8], annotation: &[u8], first: usize) -> usize
-    requires room { Room out.old 3 (9 * length (records annotation.now)) }
-    requires label_bytes { LabelBytes annotation.now }
-    requires numbers { Numbers first (3 + 9 * length (records annotation.now)) }
-    ensures value { result ≡ 3 + 9 * length (records annotation.now) }
-    ensures out_after { out.new ≡ laid out.old 3 (records_entries first (records annotation.now)) }
-{
-    let mut at = 3;
-    for i in (0..count(annotation)).rev() {
-        let own = record_at(annotation, i);
-        let all = nine(
-            first,
-            first + at,
-            own.parent as u8,
-            own.child as u8,
-            own.filter,
-        );
-        put_all(out, at, &all);
-        at += 9;
+impl<'a> Part<'a> {
+    // The entries of all records behind the opening, the last record first. The part's first entry is the parent step, and has the number
+    // `first`.
+    pub(crate) fn put_records(&mut self, annotation: &[u8], first: usize)
+        requires opened { self.old.at ≡ 3 }
+        requires room { Room self.old.out.now 3 (9 * length (records annotation.now)) }
+        requires label_bytes { LabelBytes annotation.now }
+        requires numbers { Numbers first (3 + 9 * length (records annotation.now)) }
+        ensures value { self.new.at ≡ 3 + 9 * length (records annotation.now) }
+        ensures lays { Lays self.old (records_entries first (records annotation.now)) self.new }
+    {
+        for i in (0..count(annotation)).rev() {
+            let own = record_at(annotation, i);
+            let b = first + self.at;
+            let all = nine(first, b, own.parent as u8, own.child as u8, own.filter);
+            self.put_all(&all);
+        }
     }
-    at
 }

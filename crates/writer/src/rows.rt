@@ -2,10 +2,10 @@
 ghost use Rattle.std.specs.Prelude.{◌≡◌, map, ◌<◌};
 ghost use Rattle.written.specs.Written.{entry, raise, axis_row, axis_rows};
 ghost use Rattle.tables.specs.Kind.{number};
-ghost use Rattle.tables.specs.Laid.{laid};
-ghost use Rattle.writer.specs.Laid.{Room, Short, SmallOperands, as_entry};
+ghost use Rattle.writer.specs.Laid.{Room, Short, SmallOperands, Lays, as_entry};
 
 use crate::entry::Entry;
+use crate::part::Part;
 use tables::Kind;
 
 // A kind and its operands.
@@ -90,13 +90,15 @@ pub(crate) fn row_at(k: usize) -> Entry
     ROWS[k].entry()
 }
 
-// Writes all rows, from entry `at` of the part on; what they count from stands at `distance`.
-pub(crate) fn write_rows(out: &mut [u8], at: usize, distance: usize)
-    requires room { Room out.old at 56 }
-    requires short { Short distance }
-    ensures { out.new ≡ laid out.old at (map (raise distance) axis_rows) }
-{
-    for (k, row) in ROWS.iter().enumerate() {
-        row.entry().raised(distance).put(out, at + k);
+impl<'a> Part<'a> {
+    // All rows; what they count from stands at `distance`.
+    pub(crate) fn put_rows(&mut self, distance: usize)
+        requires room { Room self.old.out.now self.old.at 56 }
+        requires short { Short distance }
+        ensures { Lays self.old (map (raise distance) axis_rows) self.new }
+    {
+        for row in &ROWS {
+            self.put(row.entry().raised(distance));
+        }
     }
 }
