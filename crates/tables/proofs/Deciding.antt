@@ -67,44 +67,36 @@ listed_test (some row) None e = absurd (grind arith)
 listed_test (some row) (Some s) e = record { exact = (λ t z. grind arith, λ z. tt) }
 
 module _ (es : Entries) (i : ℕ) where
-  -- an entry is in order where its kind is listed and its fields are right
-  by_row : {a b c d : Bool} (row : Option Row) → row_at es i ≡ row → Decides a (¬ (row ≡ none))
-      → Decides b (LabelField (label_of row) (entry_at es i).label)
-      → Decides c (OperandField es i (left_of row) (entry_at es i).left)
-      → Decides d (OperandField es i (right_of row) (entry_at es i).right)
-      → Decides (((a && b) && c) && d) (EntryRight es i)
-  by_row none e listed label left right =
-      same_test (and_test (and_test (and_test listed label) left) right)
-      (λ p. absurd (p.0.0.0 refl), λ (h : EntryRight es i). absurd (unlisted h))
+  -- an entry whose kind is listed is in order where its fields are right
+  by_row : (row : Option Row) → row_at es i ≡ row
+      → ((((¬ (row ≡ none)) × LabelField (label_of row) (entry_at es i).label) × OperandField es i (left_of row) (entry_at es i).left)
+      × OperandField es i (right_of row) (entry_at es i).right) ↔ EntryRight es i
+  by_row none e = (λ p. absurd (p.0.0.0 refl), λ h. absurd (unlisted h))
     where
       unlisted : EntryRight es i → ⊥
       unlisted h = let z : none ≡ some h.row = sym e ∙ h.listed in grind arith
-  by_row (some row) e listed label left right =
-      same_test (and_test (and_test (and_test listed label) left) right)
-      (λ p. record { row = row; listed = e; label = p.0.0.1; left = p.0.1; right = p.1 }, back)
-    where
-      back : EntryRight es i
-          → (((¬ (some row ≡ none)) × LabelField row.label (entry_at es i).label) × OperandField es i row.left (entry_at es i).left)
-          × OperandField es i row.right (entry_at es i).right
-      back h =
-          let same : h.row ≡ row = cc (e, h.listed) in (
-            (
-              (λ z. grind arith, subst (λ (r : Row). LabelField r.label (entry_at es i).label) same h.label),
-              subst (λ (r : Row). OperandField es i r.left (entry_at es i).left) same h.left,
-            ),
-            subst (λ (r : Row). OperandField es i r.right (entry_at es i).right) same h.right,
-          )
+  by_row (some row) e = (
+    λ p. record { row = row; listed = e; label = p.0.0.1; left = p.0.1; right = p.1 },
+    λ (h : EntryRight es i).
+        let same : h.row ≡ row = cc (e, h.listed) in (
+          (
+            (λ z. grind arith, subst (λ (r : Row). LabelField r.label (entry_at es i).label) same h.label),
+            subst (λ (r : Row). OperandField es i r.left (entry_at es i).left) same h.left,
+          ),
+          subst (λ (r : Row). OperandField es i r.right (entry_at es i).right) same h.right,
+        ),
+  )
 
-  -- the tests of what was read of an entry decide whether it is in order
-  pub entry_test : {b c d : Bool} (read : Entry) (shape : Shape) → Fields (entry_at es i) read → Shaped (row_of read.kind) shape
-      → Decides b (LabelField shape.label read.label)
-      → Decides c (OperandField es i (operand shape.left) read.left)
-      → Decides d (OperandField es i (operand shape.right) read.right)
-      → Decides (((is_some shape.sort && b) && c) && d) (EntryRight es i)
-  unfolding row_at
-  entry_test read shape fields shaped label left right =
-      let here : Shaped (row_at es i) shape = shape_read fields shaped in
-      by_row (row_at es i) refl (listed_test (row_at es i) shape.sort here.sort)
-      (rw (← here.label, ← fields.label) label)
-      (rw (← here.left, ← fields.left) left)
-      (rw (← here.right, ← fields.right) right)
+  -- the tests of what was read of an entry: of its kind and label, and of its operands
+  module _ (read : Entry) (shape : Shape) (fields : Fields (entry_at es i) read) (shaped : Shaped (row_of read.kind) shape) where
+    here : Shaped (row_at es i) shape
+    unfolding row_at
+    here = shape_read fields shaped
+
+    pub kind_test : {a : Bool} (b : Bool) → a ≡ is_some shape.sort → T b ↔ LabelField shape.label read.label
+        → T (a && b) ↔ ((¬ (row_at es i ≡ none)) × LabelField shape.label read.label)
+    kind_test b same label = rw same (and_test (listed_test (row_at es i) shape.sort here.sort) (record { exact = label })).exact
+
+    pub order_parts : ((((¬ (row_at es i ≡ none)) × LabelField shape.label read.label) × OperandField es i (operand shape.left) read.left)
+        × OperandField es i (operand shape.right) read.right) ↔ EntryRight es i
+    order_parts = rw (here.label, here.left, here.right, fields.label, fields.left, fields.right) (by_row (row_at es i) refl)

@@ -20,7 +20,7 @@ fn operand_right(table: &[u8], i: usize, sort: Option<Sort>, number: usize) -> b
 {
     match sort {
         None => number == 0,
-        Some(asked) => (number < i) & has_sort(table, number, asked),
+        Some(asked) => number < i && has_sort(table, number, asked),
     }
 }
 
@@ -32,7 +32,9 @@ pub fn entry_right(table: &[u8], i: usize) -> bool
     let shape = shape_of(entry.kind);
     let listed = shape.sort.is_some();
     let label = label_right(shape.label, entry.label);
-    let left = operand_right(table, i, shape.left, entry.left);
-    let right = operand_right(table, i, shape.right, entry.right);
-    listed & label & left & right
+    if !(listed & label) {
+        return false;
+    }
+    operand_right(table, i, shape.left, entry.left)
+        && operand_right(table, i, shape.right, entry.right)
 }

@@ -1,13 +1,18 @@
 -- `tables::order::operand_right`: an unused operand is 0, and a used one is an earlier entry of its sort.
-use Rattle.query.specs.Table.{entries}
-use Rattle.tables.specs.Shape.{the_sort}
-use Rattle.tables.proofs.Deciding.{operand_unused, operand_used}
+use native.Mathlib.Omega.{arith}
+use Rattle.query.specs.Table.{OperandField}
+use Rattle.tree.proofs.Tests.{less_test, equal_test}
 use Rattle.tables.proofs.order.operand_right.Goals as goal
 
 pub returns-in-None : goal.returns-in-None
-returns-in-None c = rw c.in-None.is (operand_unused (entries c.args.table.now) c.args.i c.args.number).exact
+unfolding OperandField
+returns-in-None c = rw c.in-None.is (equal_test c.args.number 0).exact
 
-pub returns-in-Some : goal.returns-in-Some
-returns-in-Some c =
-    let a = c.args in
-    rw c.in-Some.is (operand_used (entries a.table.now) a.i a.number (the_sort c.in-Some.asked) (record { exact = c.has_sort.ensures })).exact
+pub returns-then-number-i : goal.returns-then-number-i
+unfolding OperandField
+returns-then-number-i c = rw c.in-Some.is (λ t. (c.if-number-i.true, c.has_sort.ensures.0 t), λ p. c.has_sort.ensures.1 p.1)
+
+pub returns-else-number-i : goal.returns-else-number-i
+unfolding OperandField
+returns-else-number-i c =
+    rw c.in-Some.is (λ t. absurd (omega (arith, (less_test c.args.number c.args.i).exact.0 t)), λ p. absurd (omega (arith, p.0)))
