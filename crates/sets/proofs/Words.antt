@@ -118,6 +118,14 @@ added words k e l =
       exact = λ b h. (λ o. inl ((in_word words j b h).0 o), ⊎_elim (in_word words j b h).1 (λ q. absurd (other (omega arith))));
     })
 
+-- the same, where word and digit are told apart
+pub added_at : (words : List ℕ) (w k : ℕ) → length words ≡ 64 → w < 64 → k < 64
+    → Holds (λ j. In words j ⊎ (64 * w + k ≡ j)) (set words w (bit_or (get_or words w 0) (1 * 2 ^ k % 2 ^ 64)))
+added_at words w k e low l =
+    let word : (64 * w + k) / 64 ≡ w = omega arith in
+    let digit : (64 * w + k) % 64 ≡ k = omega arith in
+    rw (word, digit) at (added words (64 * w + k) e (omega arith))
+
 -- ---- the loop
 
 -- the first i of the words are written, word j as C j says, and the others stand as before

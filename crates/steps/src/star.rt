@@ -8,7 +8,7 @@ ghost use Rattle.steps.specs.Star.{Waits, Digits, WordWith, StepFrom, GoneOn};
 
 use crate::axis::Axes;
 use crate::walk::Walk;
-use sets::{Ones, add, empty};
+use sets::{Ones, empty};
 
 // The digits of word w whose nodes wait: they are in the set and may be gone on from, and that has not been done.
 fn waiting(set: &[u64; 64], sources: &[u64; 64], gone: &[u64; 64], w: usize) -> u64
@@ -39,7 +39,7 @@ impl Walk<'_> {
         ensures by_index { (k : ℕ) → k < 64 → ¬ Waits set.new sources.now gone.new (64 * w + k) }
     {
         while let Some(k) = Ones(waiting(set, sources, gone, w)).next() {
-            add(gone, 64 * w + k);
+            gone[w] |= 1 << k;
             self.add_along(64 * w + k, set);
         }
     }
