@@ -10,7 +10,7 @@ use Rattle.derivation.specs.declared.Chain.{Chain}
 use Rattle.derivation.specs.declared.Chain.TheVariants as chain
 use Rattle.derivation.specs.declared.Bracket.{Bracket}
 use Rattle.derivation.specs.declared.Bracket.TheVariants as bracket
-use Rattle.derivation.proofs.Parts.{Joined, join, joining, inside, opening_byte, closing_byte}
+use Rattle.derivation.specs.Parts.{Joined, join, joining, inside, opening_byte, closing_byte}
 use Rattle.derivation.proofs.Machine.{PathPlace, FilterPlace, in_round, in_square, in_curly, State, item, item_read, term, term_read}
 use Rattle.derivation.proofs.Machine.{Offers, nothing, on, look, goes, offer, depth, path_depth, filter_depth}
 use Rattle.derivation.proofs.Machine.{behind_filter, behind_conjunction, behind_path, behind_sequence}

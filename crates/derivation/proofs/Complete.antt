@@ -14,7 +14,7 @@ use Rattle.derivation.specs.declared.Chain.{Chain}
 use Rattle.derivation.specs.declared.Chain.TheVariants as chain
 use Rattle.derivation.specs.declared.Bracket.{Bracket}
 use Rattle.derivation.specs.declared.Bracket.TheVariants as bracket
-use Rattle.derivation.proofs.Parts.{Joined, join, joining, inside, opening_byte, closing_byte}
+use Rattle.derivation.specs.Parts.{Joined, join, joining, inside, opening_byte, closing_byte}
 use Rattle.derivation.proofs.Rules.{Result, got, NotAt, ended, other, term_bytes, NoSecond, too_low, too_high}
 use Rattle.derivation.proofs.Rules.{LabelReads, one_digit, two_digits, StarsRead, one_more, no_more}
 use Rattle.derivation.proofs.Rules.{ChainReads, starts, GoesOn, joined, ends, PathReads, ItemReads}

@@ -14,7 +14,7 @@ use Rattle.derivation.specs.declared.Chain.{Chain}
 use Rattle.derivation.specs.declared.Chain.TheVariants as chains
 use Rattle.derivation.specs.declared.Bracket.{Bracket}
 use Rattle.derivation.specs.declared.Bracket.TheVariants as brackets
-use Rattle.derivation.proofs.Parts.{Joined, join, joining, inside, opening_byte, closing_byte}
+use Rattle.derivation.specs.Parts.{Joined, join, joining, inside, opening_byte, closing_byte}
 use Rattle.derivation.proofs.Rules.{Stop, broken, deep, Result, got, stopped, NotAt, atom_bytes, term_bytes, NoSecond, NoDigit}
 use Rattle.derivation.proofs.Rules.{LabelReads, StarsRead}
 use Rattle.derivation.proofs.Rules.{ChainReads, starts, start_stops, GoesOn, joined, joined_stops, ends}

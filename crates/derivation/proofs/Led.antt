@@ -12,7 +12,7 @@ use Rattle.query.specs.Syntax as syntax
 use Rattle.text.specs.Promise.{opening}
 use Rattle.derivation.specs.declared.Chain.{Chain}
 use Rattle.derivation.specs.declared.Bracket.{Bracket}
-use Rattle.derivation.proofs.Parts.{Joined, join, inside, opening_byte}
+use Rattle.derivation.specs.Parts.{Joined, join, inside, opening_byte}
 use Rattle.derivation.proofs.Rules.{NotAt, other, NoSecond, NoDigit, term_bytes, Stop, broken, deep, Result, got, stopped}
 use Rattle.derivation.proofs.Rules.{LabelReads, one_digit, two_digits, no_digit, StarsRead, one_more, no_more}
 use Rattle.derivation.proofs.Rules.{ChainReads, starts, start_stops, GoesOn, joined, joined_stops}

@@ -11,7 +11,7 @@ use Rattle.derivation.specs.declared.Chain.{Chain}
 use Rattle.derivation.specs.declared.Chain.TheVariants as chain
 use Rattle.derivation.specs.declared.Bracket.{Bracket}
 use Rattle.derivation.specs.declared.Bracket.TheVariants as bracket
-use Rattle.derivation.proofs.Parts.{Joined, join, joining, inside, opening_byte, closing_byte}
+use Rattle.derivation.specs.Parts.{Joined, join, joining, inside, opening_byte, closing_byte}
 
 -- Why reading stops: at a byte that the grammar does not take, or at a bracket that is one too many.
 pub data Stop : Type 0 where

@@ -12,7 +12,7 @@ use Rattle.derivation.specs.declared.Chain.{Chain}
 use Rattle.derivation.specs.declared.Chain.TheVariants as chain
 use Rattle.derivation.specs.declared.Bracket.{Bracket}
 use Rattle.derivation.specs.declared.Bracket.TheVariants as brackets
-use Rattle.derivation.proofs.Parts.{Joined, join, joining, inside, opening_byte, closing_byte}
+use Rattle.derivation.specs.Parts.{Joined, join, joining, inside, opening_byte, closing_byte}
 use Rattle.derivation.proofs.Rules.{Stop, broken, deep, Result, got, stopped, LabelReads, one_digit, two_digits, no_digit}
 use Rattle.derivation.proofs.Rules.{StarsRead, one_more, no_more}
 use Rattle.derivation.proofs.Rules.{ChainReads, starts, start_stops, GoesOn, joined, joined_stops, ends}

@@ -4,7 +4,7 @@
 #![tactic(auto)]
 
 ghost use Rattle.std.specs.Prelude.{◌≡◌, get_or};
-ghost use Rattle.derivation.proofs.Parts.{opening_byte};
+ghost use Rattle.derivation.specs.Parts.{opening_byte};
 ghost use Rattle.tokens.specs.Reading.{RoomAhead, Follows, paths, filters, items, atoms, terms, brackets};
 ghost use Rattle.tokens.specs.Reading.{outer_chain, inner_chain, chains, links};
 
@@ -12,8 +12,8 @@ use derivation::Bracket;
 use reply::OPEN_BRACKETS;
 use tables::{Kind, Sort};
 use tokens::{
-    Parsed, Read, Stopped, axis, behind, byte_at, closed, closing, inner, joined, joint, labelled,
-    leaf, outer, past_nots, put,
+    Parsed, Read, Stopped, axis, behind, byte_at, closed, inner, joined, labelled, leaf, outer,
+    past_nots, put,
 };
 
 // "path: sequences joined by `|`"
@@ -41,20 +41,22 @@ fn chained(text: &[u8], at: usize, depth: usize, table: &mut [u8], count: usize,
     requires { RoomAhead text.now at table.old count }
     ensures { Follows (chains (outer_chain of)) depth text.now at table.old count result table.new }
 {
+    let outer = outer(of);
+    let inner = inner(of);
     let mut next = at;
     let mut begun = count;
     let mut left = count;
     loop {
         let read = link(text, next, depth, table, left, of)?;
-        left = joined(table, begun, left, read.count, inner(of));
+        left = joined(table, begun, left, read.count, inner);
         let byte = byte_at(text, read.at);
-        if byte == joint(inner(of)) {
+        if byte == inner.joint() {
             next = read.at + 1;
             continue;
         }
-        begun = joined(table, count, begun, left, outer(of));
+        begun = joined(table, count, begun, left, outer);
         left = begun;
-        if byte != joint(outer(of)) {
+        if byte != outer.joint() {
             return Ok(Read {
                 at: read.at,
                 count: left,
@@ -132,7 +134,7 @@ fn bracketed(
         Bracket::Round => path(text, at + 1, depth + 1, table, count),
         Bracket::Square | Bracket::Curly => filter(text, at + 1, depth + 1, table, count),
     };
-    closed(text, inner, closing(bracket))
+    closed(text, inner, bracket.closing())
 }
 
 // "Term: `!` term, `t`, `f`, `#` and a label, `{` filter `}`, or a path". The `!` in front are passed, and their entries written last.

@@ -6,7 +6,7 @@ use native.Mathlib.Nat.{le_refl}
 use lib.ListN.{length, get_or}
 use Rattle.reply.specs.Bytes.{Bytes}
 use Rattle.derivation.specs.declared.Chain.{Chain}
-use Rattle.derivation.proofs.Parts.{Joined, joining}
+use Rattle.derivation.specs.Parts.{Joined, joining}
 use Rattle.derivation.proofs.Rules as rules
 use Rattle.tokens.specs.declared.answer.Read.{Read}
 use Rattle.std.specs.Prelude.{Ok, Err}

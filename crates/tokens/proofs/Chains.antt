@@ -9,7 +9,7 @@ use Rattle.query.specs.Table.{Entries}
 use Rattle.text.specs.Written.{path_entries}
 use Rattle.derivation.specs.declared.Chain.{Chain}
 use Rattle.derivation.specs.declared.Chain.TheVariants as chain
-use Rattle.derivation.proofs.Parts.{Joined, join, joining}
+use Rattle.derivation.specs.Parts.{Joined, join, joining}
 use Rattle.derivation.proofs.Rules.{Result, got, stopped, NotAt, GoesOn, starts, start_stops, joined, joined_stops, ends}
 use Rattle.tokens.specs.declared.answer.Read.{Read}
 use Rattle.std.specs.Prelude.{Ok, Err}

@@ -9,7 +9,7 @@ use lib.ListN.{length, get_or, drop}
 use Rattle.reply.specs.Bytes.{Bytes}
 use Rattle.derivation.specs.declared.Bracket.{Bracket}
 use Rattle.derivation.specs.declared.Bracket.TheVariants.{Square, Round, Curly}
-use Rattle.derivation.proofs.Parts.{Joined, inside, opening_byte, closing_byte}
+use Rattle.derivation.specs.Parts.{Joined, inside, opening_byte, closing_byte}
 use Rattle.derivation.proofs.Rules.{Result, BracketReads, closed, stays_open, inside_stops, too_deep}
 use Rattle.std.specs.Prelude.{Err}
 use Rattle.tokens.specs.declared.answer.Stopped.TheVariants.{Deep}

@@ -12,7 +12,7 @@ use Rattle.text.specs.Written.{path_entries, filter_entries}
 use Rattle.derivation.specs.declared.Chain.{Chain}
 use Rattle.derivation.specs.declared.Chain.TheVariants as chain
 use Rattle.derivation.specs.declared.Bracket.{Bracket}
-use Rattle.derivation.proofs.Parts.{Joined, inside}
+use Rattle.derivation.specs.Parts.{Joined, inside}
 use Rattle.derivation.proofs.Rules.{Stop, broken, deep, Result, got, stopped, LabelReads, ChainReads, LinkReads, AtomReads, BracketReads}
 use Rattle.tokens.specs.declared.answer.Read.{Read}
 use Rattle.tokens.specs.declared.answer.Stopped.{Stopped}

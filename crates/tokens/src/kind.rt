@@ -1,10 +1,9 @@
 // The kinds that are written for a text, and the bytes that stand for them there.
 ghost use Rattle.std.specs.Prelude.{◌≡◌};
-ghost use Rattle.derivation.proofs.Parts.{joining, closing_byte};
 ghost use Rattle.tables.specs.Kind.{number};
 ghost use Rattle.tokens.specs.Reading.{outer_chain, inner_chain, joined_kind, AxisOf};
 
-use derivation::{Bracket, Chain};
+use derivation::Chain;
 use tables::{Kind, Sort};
 
 // The chain that a path or a filter is: a path is a chain of sequences, which are chains of items; a filter is a chain of conjunctions,
@@ -28,18 +27,6 @@ pub fn inner(sort: Sort) -> Chain
     }
 }
 
-// The byte that joins the links of a chain.
-pub fn joint(chain: Chain) -> u8
-    ensures { result ≡ joining chain }
-{
-    match chain {
-        Chain::Path => b'|',
-        Chain::Sequence => b'/',
-        Chain::Filter => b'+',
-        Chain::Conjunction => b'&',
-    }
-}
-
 // The kind of two links that are joined.
 pub fn kind_of(chain: Chain) -> Kind
     ensures { number result ≡ joined_kind chain }
@@ -49,17 +36,6 @@ pub fn kind_of(chain: Chain) -> Kind
         Chain::Sequence => Kind::Then,
         Chain::Filter => Kind::Or,
         Chain::Conjunction => Kind::And,
-    }
-}
-
-// The byte that closes a bracket.
-pub fn closing(bracket: Bracket) -> u8
-    ensures { result ≡ closing_byte bracket }
-{
-    match bracket {
-        Bracket::Square => b']',
-        Bracket::Round => b')',
-        Bracket::Curly => b'}',
     }
 }
 

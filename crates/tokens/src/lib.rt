@@ -9,5 +9,5 @@ mod label;
 
 pub use answer::{Parsed, Read, Stopped, closed};
 pub use entry::{behind, joined, leaf, put};
-pub use kind::{axis, closing, inner, joint, outer};
+pub use kind::{axis, inner, outer};
 pub use label::{byte_at, labelled, past_nots};

@@ -5,7 +5,7 @@ use mathlib.Core.Path.{◌≡◌, refl, sym, ap, ◌∙◌, subst}
 use mathlib.Core.List.{Memᴰ}
 use lib.ListN.{length, get_or}
 use Rattle.reply.specs.Bytes.{Bytes}
-use Rattle.derivation.proofs.Parts.{inside, joining}
+use Rattle.derivation.specs.Parts.{inside, joining}
 use Rattle.derivation.proofs.Rules.{StarsRead, term_bytes}
 use Rattle.derivation.specs.declared.Chain.{Chain}
 use Rattle.std.specs.Prelude.{Ok}
@@ -15,7 +15,7 @@ use Rattle.tables.specs.declared.kinds.Sort.{Sort}
 use Rattle.tokens.specs.Reading.{RoomAhead, Follows, items, chains, links, outer_chain, inner_chain}
 use Rattle.tokens.proofs.Places as places
 use Rattle.tokens.proofs.Places.{nor, none_of}
-use Rattle.tokens.proofs.Following.{place_in_text, got_stands, room_after}
+use Rattle.tokens.proofs.Following.{got_stands, room_after}
 use Rattle.tokens.proofs.Atoms.{square_follows, round_follows, axis_follows, no_atom}
 use Rattle.tokens.proofs.Enclosed.{bracket_too_deep, bracket_follows, filter_inside}
 use Rattle.tokens.proofs.Chains.{joint_seen, Chained, Going, ended}
@@ -52,9 +52,6 @@ held c =
       | bracketed-in-Round w ↦ rw (w.inner-is, w.table-is, w.in-Round.is) w.path-inner.ensures
       | bracketed-in-Square w ↦ rw (w.inner-is, w.table-is) (filter_inside w.in-Square.is w.filter-inner.ensures)
     ]
-
-pub bracketed-closed-requires : goal.bracketed-closed-requires
-bracketed-closed-requires t c = place_in_text (held c)
 
 pub bracketed-returns : goal.bracketed-returns
 bracketed-returns t c =
@@ -119,20 +116,12 @@ chained-joined-left-requires t c =
     let e = c.link.auto.table ∙ c.loop-read.invariant.0 in
     (m.2, λ l. let r = m.3 l in omega arith)
 
-pub chained-loop-read-smaller-then-byte-joint : goal.chained-loop-read-smaller-then-byte-joint
-chained-loop-read-smaller-then-byte-joint t c =
-    let of = c.args.of in
-    let s = c.loop-read.invariant.1 in
-    let byte = sym c.byte_at-byte.ensures ∙ c.if-byte-joint.true ∙ c.joint.ensures ∙ ap joining c.inner-in-loop-read.ensures in
-    let more = one_more c.requires s c.in_ok-read.ensures in
-    omega (arith, in_text c.args.text.now c.in_ok-read.read.at (inner_chain of) byte, more.0)
-
 pub chained-loop-read-preserved-then-byte-joint : goal.chained-loop-read-preserved-then-byte-joint
 chained-loop-read-preserved-then-byte-joint t c =
     let of = c.args.of in
     let s = c.loop-read.invariant.1 in
-    let byte = sym c.byte_at-byte.ensures ∙ c.if-byte-joint.true ∙ c.joint.ensures ∙ ap joining c.inner-in-loop-read.ensures in
-    let read = linked (inner_chain of) s.inside c.in_ok-read.ensures c.inner.ensures c.joined-left.ensures in
+    let byte = sym c.byte_at-byte.ensures ∙ c.if-byte-joint.true ∙ c.joint.ensures ∙ ap joining c.inner-inner.ensures in
+    let read = linked (inner_chain of) s.inside c.in_ok-read.ensures c.inner-inner.ensures c.joined-left.ensures in
     let kept = c.joined-left.auto.table ∙ c.link.auto.table ∙ c.loop-read.invariant.0 in
     (kept, record { from = s.from; mid = s.mid; kept = s.kept; outside = s.outside; inside = further read byte })
 
@@ -140,10 +129,10 @@ pub chained-joined-begun-requires : goal.chained-joined-begun-requires
 chained-joined-begun-requires t c =
     let of = c.args.of in
     let s = c.loop-read.invariant.1 in
-    let read = linked (inner_chain of) s.inside c.in_ok-read.ensures c.inner.ensures c.joined-left.ensures in
+    let read = linked (inner_chain of) s.inside c.in_ok-read.ensures c.inner-inner.ensures c.joined-left.ensures in
     let kept = c.joined-left.auto.table ∙ c.link.auto.table ∙ c.loop-read.invariant.0 in
     let other : get_or c.args.text.now c.in_ok-read.read.at 0 ≡ joining (inner_chain of) → ⊥ =
-    λ e. c.if-byte-joint.false (c.byte_at-byte.ensures ∙ e ∙ sym (c.joint.ensures ∙ ap joining c.inner-in-loop-read.ensures)) in
+    λ e. c.if-byte-joint.false (c.byte_at-byte.ensures ∙ e ∙ sym (c.joint.ensures ∙ ap joining c.inner-inner.ensures)) in
     let more = outer_more c.requires s read other in
     (more.0, λ l. let r = more.1 l in omega arith)
 
@@ -151,31 +140,23 @@ pub chained-returns-then-byte-joint-2 : goal.chained-returns-then-byte-joint-2
 chained-returns-then-byte-joint-2 t c =
     let of = c.args.of in
     let s = c.loop-read.invariant.1 in
-    let read = linked (inner_chain of) s.inside c.in_ok-read.ensures c.inner.ensures c.joined-left.ensures in
+    let read = linked (inner_chain of) s.inside c.in_ok-read.ensures c.inner-inner.ensures c.joined-left.ensures in
     let other : get_or c.args.text.now c.in_ok-read.read.at 0 ≡ joining (inner_chain of) → ⊥ =
-    λ e. c.if-byte-joint.false (c.byte_at-byte.ensures ∙ e ∙ sym (c.joint.ensures ∙ ap joining c.inner-in-loop-read.ensures)) in
-    let outer = linked (outer_chain of) s.outside (link_outer c.requires s read other) c.outer.ensures c.joined-begun.ensures in
+    λ e. c.if-byte-joint.false (c.byte_at-byte.ensures ∙ e ∙ sym (c.joint.ensures ∙ ap joining c.inner-inner.ensures)) in
+    let outer = linked (outer_chain of) s.outside (link_outer c.requires s read other) c.outer-outer.ensures c.joined-begun.ensures in
     ended (outer_chain of) outer
-    (λ e. c.if-byte-joint-2.true (c.byte_at-byte.ensures ∙ e ∙ sym (c.joint-in-loop-read.ensures ∙ ap joining c.outer-in-loop-read.ensures)))
-
-pub chained-loop-read-smaller : goal.chained-loop-read-smaller
-chained-loop-read-smaller t c =
-    let of = c.args.of in
-    let s = c.loop-read.invariant.1 in
-    let byte = sym c.byte_at-byte.ensures ∙ c.if-byte-joint-2.false ∙ c.joint-in-loop-read.ensures ∙ ap joining c.outer-in-loop-read.ensures in
-    let more = one_more c.requires s c.in_ok-read.ensures in
-    omega (arith, in_text c.args.text.now c.in_ok-read.read.at (outer_chain of) byte, more.0)
+    (λ e. c.if-byte-joint-2.true (c.byte_at-byte.ensures ∙ e ∙ sym (c.joint-in-loop-read.ensures ∙ ap joining c.outer-outer.ensures)))
 
 pub chained-loop-read-preserved : goal.chained-loop-read-preserved
 chained-loop-read-preserved t c =
     let of = c.args.of in
     let s = c.loop-read.invariant.1 in
-    let read = linked (inner_chain of) s.inside c.in_ok-read.ensures c.inner.ensures c.joined-left.ensures in
+    let read = linked (inner_chain of) s.inside c.in_ok-read.ensures c.inner-inner.ensures c.joined-left.ensures in
     let kept = c.joined-left.auto.table ∙ c.link.auto.table ∙ c.loop-read.invariant.0 in
     let other : get_or c.args.text.now c.in_ok-read.read.at 0 ≡ joining (inner_chain of) → ⊥ =
-    λ e. c.if-byte-joint.false (c.byte_at-byte.ensures ∙ e ∙ sym (c.joint.ensures ∙ ap joining c.inner-in-loop-read.ensures)) in
-    let outer = linked (outer_chain of) s.outside (link_outer c.requires s read other) c.outer.ensures c.joined-begun.ensures in
-    let byte = sym c.byte_at-byte.ensures ∙ c.if-byte-joint-2.false ∙ c.joint-in-loop-read.ensures ∙ ap joining c.outer-in-loop-read.ensures in
+    λ e. c.if-byte-joint.false (c.byte_at-byte.ensures ∙ e ∙ sym (c.joint.ensures ∙ ap joining c.inner-inner.ensures)) in
+    let outer = linked (outer_chain of) s.outside (link_outer c.requires s read other) c.outer-outer.ensures c.joined-begun.ensures in
+    let byte = sym c.byte_at-byte.ensures ∙ c.if-byte-joint-2.false ∙ c.joint-in-loop-read.ensures ∙ ap joining c.outer-outer.ensures in
     let kept_outer = c.joined-begun.auto.table ∙ kept in
     (kept_outer, record { from = _; mid = _; kept = kept_outer; outside = further outer byte; inside = first })
 

@@ -1,14 +1,12 @@
 -- `read_by`: each of the ways in which a text is read comes out as call 2 promises, where its length is right.
 use Prim.Native.Nat.{ℕ, ◌≤◌}
 use native.Mathlib.Omega.{arith}
-use mathlib.Core.Path.{◌≡◌, sym, ap, ◌∙◌}
+use mathlib.Core.Path.{◌≡◌, ap, ◌∙◌}
 use Rattle.reply.specs.Bytes.{Bytes}
 use Rattle.std.specs.Prelude.{Err}
 use Rattle.tokens.specs.declared.answer.Stopped.TheVariants.{Broken, Deep}
-use lib.Seq.{length-take-le}
 use Rattle.derivation.proofs.Mistakes.{PlainBelow}
-use Rattle.reader.proofs.Parsing.{reached_clear}
-use Rattle.reader.proofs.Answering.{Whole, whole, slip_told, broken_told, deep_told, text_told}
+use Rattle.reader.proofs.Answering.{slip_told, broken_told, deep_told, text_told}
 use Rattle.reader.proofs.read_by.Goals as goal
 use Rattle.reader.proofs.read_by.Goals.{In-Ok}
 
@@ -16,23 +14,10 @@ use Rattle.reader.proofs.read_by.Goals.{In-Ok}
 plain : {text : Bytes} {end place : ℕ} → PlainBelow text end → place ≤ end → PlainBelow text place
 plain p l k h = p k (omega arith)
 
--- what is read, where a text is
-found : (c : In-Ok) → Whole c.in-Ok.ensures
-found c = whole c.in-Ok.ensures
-
-pub slip_before-requires : goal.slip_before-requires
-slip_before-requires c = rw c.reached-end.ensures (reached_clear c.read_whole-parsed.ensures).1
-
 pub returns-in-Some : goal.returns-in-Some
 returns-in-Some c =
     let given = c.requires in
     slip_told _ _ given.2 given.0 c.read_whole-parsed.ensures (rw c.reached-end.ensures at c.in-Some.ensures) c.refuse.ensures
-
-pub slice_bounds-write_out-end : goal.slice_bounds-write_out-end
-slice_bounds-write_out-end c = (found (goal.at.slice_bounds-write_out-end c).In-Ok).long
-
-pub slice_bounds-write_out-end-in-Ok : goal.slice_bounds-write_out-end-in-Ok
-slice_bounds-write_out-end-in-Ok c = sym (length-take-le _ _ (found (goal.at.slice_bounds-write_out-end-in-Ok c).In-Ok).long)
 
 pub returns-in-Ok : goal.returns-in-Ok
 returns-in-Ok c =

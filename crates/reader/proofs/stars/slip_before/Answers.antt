@@ -1,12 +1,8 @@
 -- `slip_before`: each turn looks at one more star and at the byte before it.
-use native.Mathlib.Omega.{arith}
 use borrow.Author.Count.{below_more}
-use Rattle.reader.proofs.Slips.{star_at, star_bytes, none_first}
+use Rattle.reader.proofs.Slips.{star_at, star_bytes}
 use Rattle.reader.proofs.stars.slip_before.Goals as goal
 use Rattle.reader.proofs.stars.slip_before.Goals.{else-text-at-eq42-via-then-text-at-eq42+else-text-at-eq42-2, else-text-at-eq42-via-else-text-at-eq42}
-
-pub loop-at-init : goal.loop-at-init
-loop-at-init c = none_first
 
 pub returns-then-text-at-eq42-2 : goal.returns-then-text-at-eq42-2
 returns-then-text-at-eq42-2 c =
@@ -20,6 +16,3 @@ loop-at-preserved c =
       | else-text-at-eq42-via-then-text-at-eq42+else-text-at-eq42-2 w ↦ w.if-text-at-eq42-2.false here
       | else-text-at-eq42-via-else-text-at-eq42 w ↦ w.if-text-at-eq42.false before
     ])
-
-pub returns : goal.returns
-returns c k l = c.loop-at.invariant k (omega (arith, c.loop-at-test.false))

@@ -1,7 +1,6 @@
 -- `joined`: where the first link has entries, one more entry joins the two; else the second link stands alone.
 use Prim.Native.Nat.{◌+◌, ◌*◌, ◌≤◌}
 use lib.ListN.{length}
-use native.Mathlib.Omega.{arith}
 use borrow.Author.Rules.{rules}
 use Rattle.tokens.specs.Reading.{alone, both}
 use Rattle.tokens.proofs.entry.joined.Goals as goal
@@ -10,14 +9,6 @@ use Rattle.tokens.proofs.entry.joined.Goals.{Then-from-left}
 -- where there is something to join, there is room for the entry
 room : (c : Then-from-left) → 6 * (c.args.right + 1) ≤ length c.args.table.now
 room c = c.requires.1 c.if-from-left.true
-
-pub put-requires : goal.put-requires
-put-requires c = room (goal.at.put-requires c).Then-from-left
-
-pub overflow_add-result : goal.overflow_add-result
-overflow_add-result c =
-    let r = room (goal.at.overflow_add-result c).Then-from-left in
-    omega arith
 
 pub returns-then-from-left : goal.returns-then-from-left
 returns-then-from-left c =

@@ -1,5 +1,5 @@
--- Chains and brackets, by their kinds: what is made, of what, and with which bytes. Assumes nothing.
-use Prim.Native.Nat.{ℕ}
+-- Chains and brackets, by their kinds: what is made, of what, and with which bytes.
+use Rattle.std.specs.Prelude.{ℕ}
 use Rattle.query.specs.Syntax.{Path, then, either, Filter, and, or}
 use Rattle.derivation.specs.declared.Chain.{Chain}
 use Rattle.derivation.specs.declared.Chain.TheVariants as chain
