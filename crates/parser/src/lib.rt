@@ -1,5 +1,5 @@
-// The readers of paths and filters, which call each other through brackets. Each reads from the place `at` with `depth` brackets open, and
-// writes the entries of what it reads behind the `count` entries of the table.
+// The readers of paths and filters, which call each other through brackets. Each goes on, with `depth` brackets open, from what was read:
+// it reads on at the place `at`, and writes the entries of what it reads behind the `count` entries of the table.
 
 #![tactic(auto)]
 
@@ -22,7 +22,7 @@ pub fn path(text: &[u8], at: usize, depth: usize, table: &mut [u8], count: usize
     requires { RoomAhead text.now at table.old count }
     ensures { Follows paths depth text.now at table.old count result table.new }
 {
-    chained(text, at, depth, table, count, Sort::Path)
+    chained(text, depth, Read { at, count }, table, Sort::Path)
 }
 
 // "filter: conjunctions joined by `+`"
@@ -31,60 +31,59 @@ fn filter(text: &[u8], at: usize, depth: usize, table: &mut [u8], count: usize) 
     requires { RoomAhead text.now at table.old count }
     ensures { Follows filters depth text.now at table.old count result table.new }
 {
-    chained(text, at, depth, table, count, Sort::Filter)
+    chained(text, depth, Read { at, count }, table, Sort::Filter)
 }
 
 // The links of a path or of a filter. Two bytes join them, and the one of the inner chain binds closer; both group to the left. What is
-// read of the inner chain begins with the entry `begun`, and the next link with the entry `left`.
+// read of the inner chain begins with the entry `begun`, and the next link is read from `next`.
 #[cycle(read)]
-fn chained(text: &[u8], at: usize, depth: usize, table: &mut [u8], count: usize, of: Sort) -> Parsed
-    requires { RoomAhead text.now at table.old count }
-    ensures { Follows (chains (outer_chain of)) depth text.now at table.old count result table.new }
+fn chained(text: &[u8], depth: usize, from: Read, table: &mut [u8], of: Sort) -> Parsed
+    requires { RoomAhead text.now from.at table.old from.count }
+    ensures { Follows (chains (outer_chain of)) depth text.now from.at table.old from.count result table.new }
 {
     let outer = outer(of);
     let inner = inner(of);
-    let mut next = at;
-    let mut begun = count;
-    let mut left = count;
+    let mut begun = from.count;
+    let mut next = from;
     loop {
-        let read = link(text, next, depth, table, left, of)?;
-        left = joined(table, begun, left, read.count, inner);
+        let read = link(text, depth, next, table, of)?;
+        next.count = joined(table, begun, next.count, read.count, inner);
         let byte = byte_at(text, read.at);
         if byte == inner.joint() {
-            next = read.at + 1;
+            next.at = read.at + 1;
             continue;
         }
-        begun = joined(table, count, begun, left, outer);
-        left = begun;
+        next.count = joined(table, from.count, begun, next.count, outer);
+        begun = next.count;
         if byte != outer.joint() {
             return Ok(Read {
                 at: read.at,
-                count: left,
+                count: begun,
             });
         }
-        next = read.at + 1;
+        next.at = read.at + 1;
     }
 }
 
 // One link of the inner chain: an item of a path, a term of a filter.
 #[cycle(read)]
-fn link(text: &[u8], at: usize, depth: usize, table: &mut [u8], count: usize, sort: Sort) -> Parsed
-    requires { RoomAhead text.now at table.old count }
-    ensures { Follows (links (inner_chain sort)) depth text.now at table.old count result table.new }
+fn link(text: &[u8], depth: usize, from: Read, table: &mut [u8], sort: Sort) -> Parsed
+    requires { RoomAhead text.now from.at table.old from.count }
+    ensures { Follows (links (inner_chain sort)) depth text.now from.at table.old from.count result table.new }
 {
     match sort {
-        Sort::Path => item(text, at, depth, table, count),
-        Sort::Filter => term(text, at, depth, table, count),
+        Sort::Path => item(text, depth, from, table),
+        Sort::Filter => term(text, depth, from, table),
     }
 }
 
 // "Item: an atom and any number of `*`"
 #[cycle(read)]
-fn item(text: &[u8], at: usize, depth: usize, table: &mut [u8], count: usize) -> Parsed
-    requires { RoomAhead text.now at table.old count }
-    ensures { Follows items depth text.now at table.old count result table.new }
+fn item(text: &[u8], depth: usize, from: Read, table: &mut [u8]) -> Parsed
+    requires { RoomAhead text.now from.at table.old from.count }
+    ensures { Follows items depth text.now from.at table.old from.count result table.new }
 {
-    let mut read = atom(text, at, depth, table, count)?;
+    let mut read = atom(text, depth, from, table)?;
     while byte_at(text, read.at) == b'*' {
         put(table, read.count, Kind::Star, 0, read.count - 1, 0);
         read.at += 1;
@@ -95,57 +94,55 @@ fn item(text: &[u8], at: usize, depth: usize, table: &mut [u8], count: usize) ->
 
 // "atom: `.` self, `v` child, `^` parent, `>` next, `<` previous, `[` filter `]`, `(` path `)`"
 #[cycle(read)]
-fn atom(text: &[u8], at: usize, depth: usize, table: &mut [u8], count: usize) -> Parsed
-    requires { RoomAhead text.now at table.old count }
-    ensures { Follows atoms depth text.now at table.old count result table.new }
+fn atom(text: &[u8], depth: usize, from: Read, table: &mut [u8]) -> Parsed
+    requires { RoomAhead text.now from.at table.old from.count }
+    ensures { Follows atoms depth text.now from.at table.old from.count result table.new }
 {
-    match byte_at(text, at) {
+    match byte_at(text, from.at) {
         b'[' => {
-            let inner = bracketed(text, at, depth, table, count, Bracket::Square);
+            let inner = bracketed(text, depth, from, table, Bracket::Square);
             behind(table, inner, Kind::Stay)
         }
-        b'(' => bracketed(text, at, depth, table, count, Bracket::Round),
+        b'(' => bracketed(text, depth, from, table, Bracket::Round),
         byte => {
             let Some(kind) = axis(byte) else {
-                return Err(Stopped::Broken(at));
+                return Err(Stopped::Broken(from.at));
             };
-            leaf(table, count, kind, 0, at + 1)
+            leaf(table, from.count, kind, 0, from.at + 1)
         }
     }
 }
 
-// What stands in a bracket that opens at `at`, and the byte that closes it: through here paths and filters call each other.
+// What stands in a bracket that opens here, and the byte that closes it: through here paths and filters call each other.
 #[cycle(read)]
-fn bracketed(
-    text: &[u8],
-    at: usize,
-    depth: usize,
-    table: &mut [u8],
-    count: usize,
-    bracket: Bracket,
-) -> Parsed
-    requires { RoomAhead text.now at table.old count × (get_or text.now at 0 ≡ opening_byte bracket) }
-    ensures { Follows (brackets bracket) depth text.now at table.old count result table.new }
+fn bracketed(text: &[u8], depth: usize, from: Read, table: &mut [u8], bracket: Bracket) -> Parsed
+    requires { RoomAhead text.now from.at table.old from.count × (get_or text.now from.at 0 ≡ opening_byte bracket) }
+    ensures { Follows (brackets bracket) depth text.now from.at table.old from.count result table.new }
 {
     if depth >= OPEN_BRACKETS {
-        return Err(Stopped::Deep(at));
+        return Err(Stopped::Deep(from.at));
     }
     let inner = match bracket {
-        Bracket::Round => path(text, at + 1, depth + 1, table, count),
-        Bracket::Square | Bracket::Curly => filter(text, at + 1, depth + 1, table, count),
+        Bracket::Round => path(text, from.at + 1, depth + 1, table, from.count),
+        Bracket::Square | Bracket::Curly => {
+            filter(text, from.at + 1, depth + 1, table, from.count)
+        }
     };
     closed(text, inner, bracket.closing())
 }
 
 // "Term: `!` term, `t`, `f`, `#` and a label, `{` filter `}`, or a path". The `!` in front are passed, and their entries written last.
 #[cycle(read)]
-fn term(text: &[u8], at: usize, depth: usize, table: &mut [u8], count: usize) -> Parsed
-    requires { RoomAhead text.now at table.old count }
-    ensures { Follows terms depth text.now at table.old count result table.new }
+fn term(text: &[u8], depth: usize, from: Read, table: &mut [u8]) -> Parsed
+    requires { RoomAhead text.now from.at table.old from.count }
+    ensures { Follows terms depth text.now from.at table.old from.count result table.new }
 {
-    let next = past_nots(text, at);
-    let mut answer = plain(text, next, depth, table, count);
-    for _ in at..next {
+    let next = Read {
+        at: past_nots(text, from.at),
+        ..from
+    };
+    let mut answer = plain(text, depth, next, table);
+    for _ in from.at..next.at {
         answer = behind(table, answer, Kind::Not);
     }
     answer
@@ -153,17 +150,17 @@ fn term(text: &[u8], at: usize, depth: usize, table: &mut [u8], count: usize) ->
 
 // A term that begins with no `!`.
 #[cycle(read)]
-fn plain(text: &[u8], at: usize, depth: usize, table: &mut [u8], count: usize) -> Parsed
-    requires { RoomAhead text.now at table.old count × (get_or text.now at 0 ≡ 33 → ⊥) }
-    ensures { Follows terms depth text.now at table.old count result table.new }
+fn plain(text: &[u8], depth: usize, from: Read, table: &mut [u8]) -> Parsed
+    requires { RoomAhead text.now from.at table.old from.count × (get_or text.now from.at 0 ≡ 33 → ⊥) }
+    ensures { Follows terms depth text.now from.at table.old from.count result table.new }
 {
-    match byte_at(text, at) {
-        b't' => leaf(table, count, Kind::Always, 0, at + 1),
-        b'f' => leaf(table, count, Kind::Never, 0, at + 1),
-        b'#' => labelled(text, at + 1, table, count),
-        b'{' => bracketed(text, at, depth, table, count, Bracket::Curly),
+    match byte_at(text, from.at) {
+        b't' => leaf(table, from.count, Kind::Always, 0, from.at + 1),
+        b'f' => leaf(table, from.count, Kind::Never, 0, from.at + 1),
+        b'#' => labelled(text, from.at + 1, table, from.count),
+        b'{' => bracketed(text, depth, from, table, Bracket::Curly),
         _ => {
-            let inner = path(text, at, depth, table, count);
+            let inner = path(text, from.at, depth, table, from.count);
             behind(table, inner, Kind::Leads)
         }
     }

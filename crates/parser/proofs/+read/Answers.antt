@@ -46,7 +46,7 @@ bracketed-returns-then-depth-ge-OPEN_BRACKETS t c = bracket_too_deep c.args.brac
 -- What is read in it is what stands in such a bracket.
 held : {t : ℕ} (c : bracketed-After-closing t)
     → let a = c.args in
-    Follows (chains (inside a.bracket)) (a.depth + 1) a.text.now (a.at + 1) a.table.now a.count c.match-bracket.inner c.match-bracket.table
+    Follows (chains (inside a.bracket)) (a.depth + 1) a.text.now (a.from.at + 1) a.table.now a.from.count c.match-bracket.inner c.match-bracket.table
 held c =
     elim c.match-bracket.branch [
       | bracketed-in-Round w ↦ rw (w.inner-is, w.table-is, w.in-Round.is) w.path-inner.ensures
@@ -110,8 +110,8 @@ chained-returns-in_err-read t c =
     let not_inner = not_linked (inner_chain c.args.of) s.inside c.in_err-read.ensures in
     rw (met c.from_residual.ensures.1) (not_linked (outer_chain c.args.of) s.outside (as_link c.args.of not_inner))
 
-pub chained-joined-left-requires : goal.chained-joined-left-requires
-chained-joined-left-requires t c =
+pub chained-joined-requires : goal.chained-joined-requires
+chained-joined-requires t c =
     let m = one_more c.requires c.loop-read.invariant.1 c.in_ok-read.ensures in
     let e = c.link.auto.table ∙ c.loop-read.invariant.0 in
     (m.2, λ l. let r = m.3 l in omega arith)
@@ -121,16 +121,16 @@ chained-loop-read-preserved-then-byte-joint t c =
     let of = c.args.of in
     let s = c.loop-read.invariant.1 in
     let byte = sym c.byte_at-byte.ensures ∙ c.if-byte-joint.true ∙ c.joint.ensures ∙ ap joining c.inner-inner.ensures in
-    let read = linked (inner_chain of) s.inside c.in_ok-read.ensures c.inner-inner.ensures c.joined-left.ensures in
-    let kept = c.joined-left.auto.table ∙ c.link.auto.table ∙ c.loop-read.invariant.0 in
+    let read = linked (inner_chain of) s.inside c.in_ok-read.ensures c.inner-inner.ensures c.joined.ensures in
+    let kept = c.joined.auto.table ∙ c.link.auto.table ∙ c.loop-read.invariant.0 in
     (kept, record { from = s.from; mid = s.mid; kept = s.kept; outside = s.outside; inside = further read byte })
 
-pub chained-joined-begun-requires : goal.chained-joined-begun-requires
-chained-joined-begun-requires t c =
+pub chained-joined-requires-in-loop-read : goal.chained-joined-requires-in-loop-read
+chained-joined-requires-in-loop-read t c =
     let of = c.args.of in
     let s = c.loop-read.invariant.1 in
-    let read = linked (inner_chain of) s.inside c.in_ok-read.ensures c.inner-inner.ensures c.joined-left.ensures in
-    let kept = c.joined-left.auto.table ∙ c.link.auto.table ∙ c.loop-read.invariant.0 in
+    let read = linked (inner_chain of) s.inside c.in_ok-read.ensures c.inner-inner.ensures c.joined.ensures in
+    let kept = c.joined.auto.table ∙ c.link.auto.table ∙ c.loop-read.invariant.0 in
     let other : get_or c.args.text.now c.in_ok-read.read.at 0 ≡ joining (inner_chain of) → ⊥ =
     λ e. c.if-byte-joint.false (c.byte_at-byte.ensures ∙ e ∙ sym (c.joint.ensures ∙ ap joining c.inner-inner.ensures)) in
     let more = outer_more c.requires s read other in
@@ -140,10 +140,10 @@ pub chained-returns-then-byte-joint-2 : goal.chained-returns-then-byte-joint-2
 chained-returns-then-byte-joint-2 t c =
     let of = c.args.of in
     let s = c.loop-read.invariant.1 in
-    let read = linked (inner_chain of) s.inside c.in_ok-read.ensures c.inner-inner.ensures c.joined-left.ensures in
+    let read = linked (inner_chain of) s.inside c.in_ok-read.ensures c.inner-inner.ensures c.joined.ensures in
     let other : get_or c.args.text.now c.in_ok-read.read.at 0 ≡ joining (inner_chain of) → ⊥ =
     λ e. c.if-byte-joint.false (c.byte_at-byte.ensures ∙ e ∙ sym (c.joint.ensures ∙ ap joining c.inner-inner.ensures)) in
-    let outer = linked (outer_chain of) s.outside (link_outer c.requires s read other) c.outer-outer.ensures c.joined-begun.ensures in
+    let outer = linked (outer_chain of) s.outside (link_outer c.requires s read other) c.outer-outer.ensures c.joined-in-loop-read.ensures in
     ended (outer_chain of) outer
     (λ e. c.if-byte-joint-2.true (c.byte_at-byte.ensures ∙ e ∙ sym (c.joint-in-loop-read.ensures ∙ ap joining c.outer-outer.ensures)))
 
@@ -151,13 +151,13 @@ pub chained-loop-read-preserved : goal.chained-loop-read-preserved
 chained-loop-read-preserved t c =
     let of = c.args.of in
     let s = c.loop-read.invariant.1 in
-    let read = linked (inner_chain of) s.inside c.in_ok-read.ensures c.inner-inner.ensures c.joined-left.ensures in
-    let kept = c.joined-left.auto.table ∙ c.link.auto.table ∙ c.loop-read.invariant.0 in
+    let read = linked (inner_chain of) s.inside c.in_ok-read.ensures c.inner-inner.ensures c.joined.ensures in
+    let kept = c.joined.auto.table ∙ c.link.auto.table ∙ c.loop-read.invariant.0 in
     let other : get_or c.args.text.now c.in_ok-read.read.at 0 ≡ joining (inner_chain of) → ⊥ =
     λ e. c.if-byte-joint.false (c.byte_at-byte.ensures ∙ e ∙ sym (c.joint.ensures ∙ ap joining c.inner-inner.ensures)) in
-    let outer = linked (outer_chain of) s.outside (link_outer c.requires s read other) c.outer-outer.ensures c.joined-begun.ensures in
+    let outer = linked (outer_chain of) s.outside (link_outer c.requires s read other) c.outer-outer.ensures c.joined-in-loop-read.ensures in
     let byte = sym c.byte_at-byte.ensures ∙ c.if-byte-joint-2.false ∙ c.joint-in-loop-read.ensures ∙ ap joining c.outer-outer.ensures in
-    let kept_outer = c.joined-begun.auto.table ∙ kept in
+    let kept_outer = c.joined-in-loop-read.auto.table ∙ kept in
     (kept_outer, record { from = _; mid = _; kept = kept_outer; outside = further outer byte; inside = first })
 
 -- `item`: an atom is read, and each turn adds one star to it.
@@ -227,17 +227,17 @@ plain-returns-in-123 t c = curly_follows c.bracketed.ensures
 
 pub plain-returns-in_default : goal.plain-returns-in_default
 plain-returns-in_default t c =
-    let none : ¬ Memᴰ (get_or c.args.text.now c.args.at 0) term_bytes =
+    let none : ¬ Memᴰ (get_or c.args.text.now c.args.from.at 0) term_bytes =
     nor c.requires.1 (nor (λ e. omega arith) (nor (λ e. omega arith) (nor (λ e. omega arith) (nor (λ e. omega arith) none_of)))) in
     leads_follows none c.path-inner.ensures c.behind.ensures
 
 -- `term`: each turn puts one more of the `!` that were passed in front of what is read.
 pub term-loop-init : goal.term-loop-init
-term-loop-init t c = (refl, λ before place e f. let same : place ≡ c.past_nots-next.result = omega arith in rw same f)
+term-loop-init t c = (refl, λ before place e f. let same : place ≡ c.past_nots.result = omega arith in rw same f)
 
 pub term-behind-answer-requires : goal.term-behind-answer-requires
 term-behind-answer-requires t c =
-    let place : ℕ = c.args.at + c.past_nots-next.result - c.loop.counter in
+    let place : ℕ = c.args.from.at + c.past_nots.result - c.loop.counter in
     let answered = c.loop.invariant.1 c.args.table.now place (omega arith) c.plain-answer.ensures in
     let kept = c.loop.invariant.0 ∙ c.plain-answer.auto.table in
     room_after answered c.requires (omega arith) (omega arith) kept
@@ -246,9 +246,9 @@ pub term-loop-preserved : goal.term-loop-preserved
 term-loop-preserved t c = (
   c.behind-answer.auto.table ∙ c.loop.invariant.0,
   λ before place e f.
-      let byte = c.past_nots-next.ensures.each place (omega arith) (omega arith) in
+      let byte = c.past_nots.ensures.each place (omega arith) (omega arith) in
       not_follows byte (c.loop.invariant.1 before (place + 1) (omega arith) f) c.behind-answer.ensures,
 )
 
 pub term-returns : goal.term-returns
-term-returns t c = c.loop.invariant.1 c.args.table.now c.args.at (omega arith) c.plain-answer.ensures
+term-returns t c = c.loop.invariant.1 c.args.table.now c.args.from.at (omega arith) c.plain-answer.ensures

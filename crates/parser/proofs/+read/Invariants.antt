@@ -23,28 +23,28 @@ rank sort.Path = 3
 rank sort.Filter = 10
 
 abbrev pub decreases-bracketed : goal.decreases-bracketed
-decreases-bracketed l = unread l.text.now l.at 0
+decreases-bracketed l = unread l.text.now l.from.at 0
 
 abbrev pub decreases-atom : goal.decreases-atom
-decreases-atom l = unread l.text.now l.at 1
+decreases-atom l = unread l.text.now l.from.at 1
 
 abbrev pub decreases-item : goal.decreases-item
-decreases-item l = unread l.text.now l.at 2
+decreases-item l = unread l.text.now l.from.at 2
 
 abbrev pub decreases-link : goal.decreases-link
-decreases-link l = unread l.text.now l.at (rank l.sort)
+decreases-link l = unread l.text.now l.from.at (rank l.sort)
 
 abbrev pub decreases-chained : goal.decreases-chained
-decreases-chained l = unread l.text.now l.at (rank l.of + 1)
+decreases-chained l = unread l.text.now l.from.at (rank l.of + 1)
 
 abbrev pub decreases-path : goal.decreases-path
 decreases-path l = unread l.text.now l.at 7
 
 abbrev pub decreases-plain : goal.decreases-plain
-decreases-plain l = unread l.text.now l.at 8
+decreases-plain l = unread l.text.now l.from.at 8
 
 abbrev pub decreases-term : goal.decreases-term
-decreases-term l = unread l.text.now l.at 9
+decreases-term l = unread l.text.now l.from.at 9
 
 abbrev pub decreases-filter : goal.decreases-filter
 decreases-filter l = unread l.text.now l.at 13
@@ -52,17 +52,17 @@ decreases-filter l = unread l.text.now l.at 13
 -- a turn of `chained` reads a link of the inner chain
 abbrev pub invariant-chained-loop-read : goal.invariant-chained-loop-read
 invariant-chained-loop-read l =
-    (length l.table ≡ length l.initial.table) × Standing l.of l.depth l.text l.at l.initial.table l.count l.next l.begun l.left l.table
+    (length l.table ≡ length l.initial.table) × Standing l.of l.depth l.text l.from.at l.initial.table l.from.count l.next.at l.begun l.next.count l.table
 
 abbrev pub decreases-chained-loop-read : goal.decreases-chained-loop-read
-decreases-chained-loop-read l = length l.text - l.next
+decreases-chained-loop-read l = length l.text - l.next.at
 
 -- a turn of `item` adds one star to the atom that was read
 abbrev pub invariant-item-loop-table : goal.invariant-item-loop-table
 invariant-item-loop-table l =
     (length l.table ≡ length l.initial.table)
-    × ((before : Bytes) → Going items StarsRead l.depth l.text l.at before l.count l.initial.read.at l.initial.read.count l.initial.table
-    → Going items StarsRead l.depth l.text l.at before l.count l.read.at l.read.count l.table)
+    × ((before : Bytes) → Going items StarsRead l.depth l.text l.fn.from.at before l.fn.from.count l.initial.read.at l.initial.read.count l.initial.table
+    → Going items StarsRead l.depth l.text l.fn.from.at before l.fn.from.count l.read.at l.read.count l.table)
 
 abbrev pub decreases-item-loop-table : goal.decreases-item-loop-table
 decreases-item-loop-table l = length l.text - l.read.at
@@ -71,6 +71,6 @@ decreases-item-loop-table l = length l.text - l.read.at
 abbrev pub invariant-term-loop : goal.invariant-term-loop
 invariant-term-loop l =
     (length l.table ≡ length l.initial.table)
-    × ((before : Bytes) (place : ℕ) → place + l.counter ≡ l.at + l.next
-    → Follows terms l.depth l.text l.next before l.count l.initial.answer l.initial.table
-    → Follows terms l.depth l.text place before l.count l.answer l.table)
+    × ((before : Bytes) (place : ℕ) → place + l.counter ≡ l.fn.from.at + l.end
+    → Follows terms l.depth l.text l.end before l.fn.from.count l.initial.answer l.initial.table
+    → Follows terms l.depth l.text place before l.fn.from.count l.answer l.table)
