@@ -8,7 +8,8 @@ use Rattle.tables.specs.declared.kinds.Kind.TheVariants.{Itself, Child, Parent, 
 use Rattle.tables.specs.Kind.{number}
 
 -- of a path's, self
-pub itself_left : (k : Kind) → number k ≤ 9 → k ≢ Child → k ≢ Parent → k ≢ Next → k ≢ Previous → k ≢ Stay → k ≢ Then → k ≢ Either → k ≢ Star → number k ≡ 1
+pub itself_left : (k : Kind) → number k ≤ 9 → k ≢ Child → k ≢ Parent → k ≢ Next → k ≢ Previous → k ≢ Stay → k ≢ Then → k ≢ Either → k ≢ Star
+    → number k ≡ 1
 itself_left Itself l a b c d e f g h = refl
 itself_left Child l a b c d e f g h = absurd (a refl)
 itself_left Parent l a b c d e f g h = absurd (b refl)

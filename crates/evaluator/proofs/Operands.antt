@@ -4,7 +4,7 @@ use native.Mathlib.Omega.{arith}
 use mathlib.Core.Path.{◌≡◌, refl}
 use mathlib.Core.Logic.{◌↔◌}
 use mathlib.Core.List.{List}
-use Rattle.std.proofs.Math.Option.{none}
+use Rattle.std.specs.Prelude.{Option, IsSome}
 use lib.ListN.{length}
 use Rattle.reply.specs.Bytes.{Bytes}
 use Rattle.roll.specs.Roll.{nodes}
@@ -13,14 +13,17 @@ use Rattle.roll.proofs.Deciding.{roll_in_order}
 use Rattle.query.specs.Syntax as syntax
 use Rattle.query.specs.Syntax.{Path}
 use Rattle.query.specs.Meaning.{reach}
-use Rattle.query.specs.Kind.{Sort, path, of, kinds, find, row_of}
+use Rattle.query.specs.Kind.{Sort, path, of, kinds, find}
 use Rattle.query.specs.Table as table
-use Rattle.query.specs.Table.{entries, entry_at, row_at, OperandField, EntryRight, the_path, the_filter, build, path_at, filter_at}
+use Rattle.query.specs.Table.{entries, entry_at, OperandField, EntryRight, the_path, the_filter, build, path_at, filter_at}
 use Rattle.query.proofs.Standing as standing
 use Rattle.sets.specs.Sets.{Inside}
 use Rattle.tables.specs.Fields.{Fields}
 use Rattle.tables.specs.declared.entry.Entry.{Entry}
 use Rattle.tables.specs.Promise.{EntriesRight}
+use Rattle.tables.specs.declared.kinds.Kind.{Kind}
+use Rattle.tables.specs.Kind.{Stands}
+use Rattle.tables.proofs.Found.{kind_found}
 use Rattle.evaluator.proofs.Walks.{Then}
 use Rattle.evaluator.specs.declared.course.Course.{Course}
 use Rattle.evaluator.specs.declared.course.Course.TheVariants.{Forwards, Backwards, Freely}
@@ -58,9 +61,8 @@ module _ {tab : Bytes} {s : Sort} {e : ℕ} {read : Entry} (k : Read tab s e rea
   right = k.order e k.entry.within
 
   -- the list has its kind
-  pub listed : ¬ (row_of read.kind ≡ none)
-  unfolding row_at
-  listed out = let row = k.entry.sort.listed in let same = rw k.fields.kind at out in cc
+  pub listed : (found : Option Kind) → Stands read.kind found → IsSome found
+  listed found stands = kind_found found right k.fields.kind stands
 
   -- one operand, or two of one sort
   one : {o : Sort} {P : Type 0} → OperandField (entries tab) e (of o) read.left × P → Part tab e o read.left × P

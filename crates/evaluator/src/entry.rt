@@ -36,9 +36,7 @@ pub(crate) fn path_entry(table: &[u8], e: usize) -> PathEntry
     ensures { ForPath table.now e result }
 {
     let entry = entry_at(table, e);
-    let Some(kind) = kind_of(entry.kind) else {
-        return PathEntry::Itself;
-    };
+    let kind = kind_of(entry.kind).unwrap();
     match kind {
         Kind::Child => PathEntry::Along(Axis::Child),
         Kind::Parent => PathEntry::Along(Axis::Parent),
@@ -58,9 +56,7 @@ pub(crate) fn filter_entry(table: &[u8], e: usize) -> FilterEntry
     ensures { ForFilter table.now e result }
 {
     let entry = entry_at(table, e);
-    let Some(kind) = kind_of(entry.kind) else {
-        return FilterEntry::Never;
-    };
+    let kind = kind_of(entry.kind).unwrap();
     match kind {
         Kind::Labelled => FilterEntry::Labelled(entry.label),
         Kind::Leads => FilterEntry::Leads(entry.left),

@@ -20,8 +20,8 @@ use roll::count;
 use sets::{below, common, difference, empty, is_empty, union};
 use steps::{closure, labelled, only, step};
 
-// What an evaluation rests on: a roll with its links, a table of paths and filters, and of one filter, of number `known`, the nodes where it
-// holds, as far as they are known beforehand.
+// What an evaluation rests on: a roll with its links, a table of paths and filters, and of one filter, of number `known`, the nodes where
+// it holds, `held`.
 #[derive(Clone, Copy)]
 pub(crate) struct Evaluation<'a> {
     pub(crate) roll: &'a [u8],
@@ -83,9 +83,9 @@ impl<'a> Evaluation<'a> {
         }
     }
 
-    // The star of one path and then another, if one of the two is a filter at hand and the other leads along axes: it goes on from each node
-    // once. A step and then the filter, many times, is a step, then the filter and a step many times, and the filter. Its sets take room only
-    // while it runs, and none of that of rounds.
+    // The star of one path and then another, if one of the two is a filter at hand and the other leads along axes: it goes on from each
+    // node once. A step and then the filter, many times, is a step, then the filter and a step many times, and the filter. It is a call
+    // of its own, since its sets would take room beneath rounds too.
     #[cycle(walk)]
     #[inline(never)]
     fn of_two(
@@ -118,7 +118,7 @@ impl<'a> Evaluation<'a> {
     }
 
     // Where a star may go on that starts from a set: at the nodes where the filter holds that the path stays by. All nodes are asked at
-    // once. If it holds nowhere in the set, the star ends there.
+    // once. If it holds nowhere in the set, the star ends there. It is a call of its own, since its sets would take room twice.
     #[cycle(walk)]
     #[inline(never)]
     fn sources(&self, e: usize, course: Course, from: [u64; 64]) -> [u64; 64]
