@@ -6,10 +6,9 @@ use mathlib.Core.Logic.{inl, inr, ⊎_elim}
 use mathlib.Core.List.Memᴰ
 use mathlib.Core.List.{[], ◌∷◌, ◌++◌, append_assoc, Memᴰ}
 use lib.ListN.{length, take, drop, length-append, length-drop, drop_of_length-le}
-use lib.Seq.{length-take-le, take-length, take_all, take-add, take-append-add, take-append-le, take_at}
+use lib.Seq.{length-take-le, take_all, take-add, take-append-add, take-append-le, take_at}
 use borrow.Rule.Slice.PartMut.{mid_of, post_of, put_mid, mid_len, same_len_mid}
-use Rattle.std.proofs.Math.Seq.{slice}
-use Rattle.draw.specs.Place.{index_of}
+use Rattle.memchr.specs.Find.{Passes, Nowhere, NoneBefore, is_byte}
 use Rattle.reply.specs.Bytes.{Bytes}
 use Rattle.lines.specs.Line.{longest}
 use Rattle.draw.specs.Drawn.{Drawn, none, one_more}
@@ -28,19 +27,20 @@ module _ {Line : Bytes → Bytes → Type 0} where
   at_first input before = record { within = zero-le; fits = zero-le; long = refl; drawn = none }
 
   module _ {input before output : Bytes} {read written : ℕ} (g : Going Line input before read written output) where
-    -- where the search finds it
-    pub next_feed : {end : ℕ} → end ≡ read + index_of 10 (slice read (length input) input) → end ≡ read + index_of 10 (drop read input)
-    unfolding slice
-    next_feed e = e ∙ ap (λ (b : Bytes). read + index_of 10 (drop read b)) (take-length input)
+    -- what is left of the input
+    abbrev tail : Bytes
+    tail = take (length input - read) (drop read input)
 
-    -- the search finds none
-    pub no_line : {end : ℕ} → end ≡ read + index_of 10 (slice read (length input) input) → end ≡ length input
-        → LinesAnswered Line input read written output
-    no_line e past = record {
+    tail_is : tail ≡ drop read input
+    tail_is = take_all (length input - read) (drop read input) (omega (arith, length-drop read input))
+
+    -- the search finds no line feed in it
+    pub no_line : Nowhere (Passes (is_byte 10) tail) 0 (length tail) → LinesAnswered Line input read written output
+    no_line absent = record {
       within = g.within;
       fits = g.fits;
       drawn = g.drawn;
-      ends = inl (none_at_all 10 (drop read input) (omega (arith, next_feed e, length-drop read input)));
+      ends = inl (none_at_all 10 (drop read input) (subst (λ (b : Bytes). Nowhere (Passes (is_byte 10) b) 0 (length b)) tail_is absent));
     }
 
     -- there is no more room
@@ -48,12 +48,11 @@ module _ {Line : Bytes → Bytes → Type 0} where
     no_room l = record { within = g.within; fits = g.fits; drawn = g.drawn; ends = inr (omega (arith, g.fits)) }
 
     -- a line is answered, in the part of the output that is left
-    pub one_line : {end c : ℕ} {part : Bytes} → end ≡ read + index_of 10 (slice read (length input) input) → end ≤ length input
-        → ¬ (end ≡ length input)
-        → LineWritten (Line (take (end - read) (drop read input))) (mid_of written (length output - written) output) c part
-        → Going Line input before (end + 1) (written + c) (put_mid written (length output - written) output part)
-    one_line {end} {c} {part} e within some w = record {
-      within = omega arith;
+    pub one_line : {n c : ℕ} {part : Bytes} → NoneBefore (Passes (is_byte 10) tail) 0 (length tail) n × Passes (is_byte 10) tail n
+        → LineWritten (Line (take (read + n - read) (drop read input))) (mid_of written (length output - written) output) c part
+        → Going Line input before (read + n + 1) (written + c) (put_mid written (length output - written) output part)
+    one_line {n} {c} {part} found w = record {
+      within = omega (arith, there, length-drop read input);
       fits = omega (arith, same, w.written.room, w.count, mid_len written (length output) output (omega arith), g.fits);
       long = same ∙ g.long;
       drawn = subst (λ (b : Bytes). Drawn Line b (take (written + c) after)) (sym up_to_end)
@@ -74,22 +73,28 @@ module _ {Line : Bytes → Bytes → Type 0} where
         rest = drop (length w.line) (mid_of written (length output - written) output)
 
         text : Bytes
-        text = take (end - read) (drop read input)
+        text = take (read + n - read) (drop read input)
 
-        ahead : end - read ≡ index_of 10 (drop read input)
-        ahead = omega (arith, next_feed e)
+        ahead : read + n - read ≡ n
+        ahead = omega arith
+
+        there : n < length (drop read input)
+        there = rw (← tail_is) found.0.high
 
         no_feed : ¬ Memᴰ 10 text
-        no_feed = subst (λ (k : ℕ). ¬ Memᴰ 10 (take k (drop read input))) (sym ahead) (none_before 10 (drop read input))
+        no_feed =
+            rw ahead
+            (none_before 10 (drop read input) n (subst (λ (b : Bytes). Nowhere (Passes (is_byte 10) b) 0 n) tail_is found.0.before))
 
         -- the input up to the line feed
-        up_to_end : take (end + 1) input ≡ take read input ++ text ++ 10 ∷ []
+        up_to_end : take (read + n + 1) input ≡ take read input ++ text ++ 10 ∷ []
         up_to_end =
             let here = drop read input in
-            let next : end + 1 ≡ read + suc (index_of 10 here) = omega (arith, next_feed e) in
-            ap (λ (k : ℕ). take k input) next ∙ take-add read (suc (index_of 10 here)) input
-            ∙ ap (λ (b : Bytes). take read input ++ b) (up_to 10 here (omega (arith, next_feed e, length-drop read input)))
-            ∙ sym (append_assoc (take read input) (take (index_of 10 here) here) (10 ∷ []))
+            let next : read + n + 1 ≡ read + suc n = omega arith in
+            ap (λ (k : ℕ). take k input) next ∙ take-add read (suc n) input
+            ∙ ap (λ (b : Bytes). take read input ++ b)
+            (up_to 10 here n there (subst (λ (b : Bytes). Passes (is_byte 10) b n) tail_is found.1))
+            ∙ sym (append_assoc (take read input) (take n here) (10 ∷ []))
             ∙ ap (λ (k : ℕ). take read input ++ take k here ++ 10 ∷ []) (sym ahead)
 
         -- the part is as long as it was, and so is the output

@@ -2,6 +2,5 @@ pub mod Answering
 pub mod Finding
 pub mod Drawing
 pub mod Keeping
-pub mod Reading
 pub mod Unique
 pub mod Cut

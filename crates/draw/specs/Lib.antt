@@ -1,3 +1,2 @@
 pub mod Drawn
 pub mod Inner
-pub mod Place

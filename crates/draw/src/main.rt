@@ -8,6 +8,7 @@ mod line;
 mod stream;
 
 use file::load;
+use line::Archive;
 use reply::{FILTER_ENTRIES, NODES, RECORDS};
 use stream::{draw, unreadable};
 
@@ -16,21 +17,19 @@ fn main(rt: HostRuntime) {
     let mut roll = [0u8; 4 * NODES + 4];
     let mut view = [0u8; 6 * RECORDS + 6];
     let mut filters = [0u8; 6 * FILTER_ENTRIES + 6];
-    let roll_file = load(&rt, b"roll.rec", &mut roll);
-    let view_file = load(&rt, b"view.rec", &mut view);
-    let filter_file = load(&rt, b"filters.rec", &mut filters);
-    if roll_file.readable & view_file.readable & filter_file.readable {
-        let nodes = roll_file.size;
-        let records = view_file.size;
-        let entries = filter_file.size;
-        draw(
-            rt.stdin(),
-            rt.stdout(),
-            &roll[..nodes],
-            &view[..records],
-            &filters[..entries],
-        );
-    } else {
+    let files = (
+        load(&rt, b"roll.rec", &mut roll),
+        load(&rt, b"view.rec", &mut view),
+        load(&rt, b"filters.rec", &mut filters),
+    );
+    let (Some(nodes), Some(records), Some(entries)) = files else {
         unreadable(rt.stdout());
-    }
+        return;
+    };
+    let archive = Archive {
+        roll: &roll[..nodes],
+        view: &view[..records],
+        filters: &filters[..entries],
+    };
+    draw(rt.stdin(), rt.stdout(), &archive);
 }

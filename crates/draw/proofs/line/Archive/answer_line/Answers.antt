@@ -3,13 +3,13 @@ use native.Mathlib.Omega.{arith}
 use mathlib.Core.Path.{sym}
 use lib.Seq.{length-take-le}
 use Rattle.draw.proofs.Answering.{TableRead, table_read, refused_line, answered_line}
-use Rattle.draw.proofs.line.answer_line.Goals as goal
-use Rattle.draw.proofs.line.answer_line.Goals.{In-Count}
+use Rattle.draw.proofs.line.Archive.answer_line.Goals as goal
+use Rattle.draw.proofs.line.Archive.answer_line.Goals.{In-Ok}
 
 -- a text that is read has its table in front of the local one
-table : (c : In-Count) →
-    TableRead c.args.text.now c.in-Count.n c.read_text-read.new.room
-table c = table_read c.in-Count.is c.read_text-read.ensures
+table : (c : In-Ok) →
+    TableRead c.args.text.now c.in-Ok.n c.read_text-read.new.room
+table c = table_read c.in-Ok.is c.read_text-read.ensures
 
 pub returns-in_default : goal.returns-in_default
 returns-in_default c =
@@ -20,11 +20,11 @@ pub overflow_mul-size : goal.overflow_mul-size
 overflow_mul-size c = omega (arith, (table c).few)
 
 pub slice_bounds-table-end : goal.slice_bounds-table-end
-slice_bounds-table-end c = (table c).long
+slice_bounds-table-end c = (table (goal.at.slice_bounds-table-end c).In-Ok).long
 
 pub slice_bounds-curators_answer-end : goal.slice_bounds-curators_answer-end
-slice_bounds-curators_answer-end c = sym (length-take-le _ _ (table (goal.at.slice_bounds-curators_answer-end c).In-Count).long)
+slice_bounds-curators_answer-end c = sym (length-take-le _ _ (table (goal.at.slice_bounds-curators_answer-end c).In-Ok).long)
 
 pub returns : goal.returns
 returns c =
-    answered_line (table (goal.at.returns c).In-Count) c.curators_answer-reply.ensures c.write_line-2.ensures
+    answered_line (table (goal.at.returns c).In-Ok) c.curators_answer-reply.ensures c.write_line-2.ensures
