@@ -3,7 +3,7 @@
 use Prim.Native.Nat.{ℕ, ◌+◌, ◌*◌, ◌/◌, ◌≤◌, ◌<◌}
 use native.Mathlib.Numerals.{towards_suc}
 use native.Mathlib.Omega.{arith}
-use mathlib.Core.Path.{◌≡◌, refl, ◌∙◌, subst}
+use mathlib.Core.Path.{◌≡◌, ◌∙◌, subst}
 use mathlib.Core.List.{[], ◌∷◌}
 use lib.ListN.{length, get_or, set}
 use lib.Seq.{sets}
@@ -30,8 +30,10 @@ module _ (b : Bytes) (i : ℕ) where
       (record { kind = kind; label = simp towards_suc at label; left = simp towards_suc at left; right = simp towards_suc at right })
 
   -- an entry that is not there has no fields
-  pub fields_none : length b / 6 ≤ i → Fields (entry_at (entries b) i) (record { kind = 0; label = 0; left = 0; right = 0 })
-  fields_none l = rw (no_entry b i (omega (arith, entries_length b))) (record { kind = refl; label = refl; left = refl; right = refl })
+  pub fields_none : (read : Entry) → length b / 6 ≤ i → (read.kind ≡ 0) × ((read.label ≡ 0) × ((read.left ≡ 0) × (read.right ≡ 0)))
+      → Fields (entry_at (entries b) i) read
+  fields_none read l zeros =
+      rw (no_entry b i (omega (arith, entries_length b))) (record { kind = zeros.0; label = zeros.1.0; left = zeros.1.1.0; right = zeros.1.1.1 })
 
 -- kind, label and the two numbers behind them are the bytes of an entry
 pub stored : (out : Bytes) (n kind label left right : ℕ) {first second : Bytes}

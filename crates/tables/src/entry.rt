@@ -10,7 +10,7 @@ ghost use Rattle.tables.specs.Laid.{laid, fields};
 use crate::kinds::{Kind, Sort, kind_of, sort_of};
 use reply::{put_two_bytes, two_bytes};
 
-#[derive(Clone, Copy)]
+#[derive(Clone, Copy, Default)]
 pub struct Entry {
     pub kind: usize,
     pub label: usize,
@@ -38,12 +38,7 @@ pub fn entry_at(table: &[u8], i: usize) -> Entry
     ensures { Fields (entry_at (entries table.now) i) result }
 {
     if table.len() / 6 <= i {
-        return Entry {
-            kind: 0,
-            label: 0,
-            left: 0,
-            right: 0,
-        };
+        return Entry::default();
     }
     let at = 6 * i;
     Entry {
@@ -54,24 +49,18 @@ pub fn entry_at(table: &[u8], i: usize) -> Entry
     }
 }
 
-pub fn kind_at(table: &[u8], i: usize) -> usize
-    ensures { result ≡ (entry_at (entries table.now) i).kind }
-{
-    entry_at(table, i).kind
-}
-
 // The kind of entry i, where the list has it.
 pub fn listed_kind(table: &[u8], i: usize) -> Option<Kind>
     ensures { Stands (entry_at (entries table.now) i).kind result }
 {
-    kind_of(kind_at(table, i))
+    kind_of(entry_at(table, i).kind)
 }
 
 // The sort of entry i, where its kind is listed.
 pub fn sort_at(table: &[u8], i: usize) -> Option<Sort>
     ensures { operand result ≡ sort_of (row_at (entries table.now) i) }
 {
-    sort_of(kind_at(table, i))
+    sort_of(entry_at(table, i).kind)
 }
 
 // Whether entry i is of a sort.

@@ -1,16 +1,10 @@
 // "The height of an entry is 1 without operands, otherwise 1 plus the greatest height of its operands."
-ghost use Rattle.std.specs.Prelude.{◌≡◌, ◌+◌, max};
+ghost use Rattle.std.specs.Prelude.{◌≡◌, ◌+◌};
 ghost use Rattle.query.specs.Table.{entries, entry_at, operand_height, height};
 ghost use Rattle.tables.specs.Shape.{operand};
 
 use crate::entry::entry_at;
 use crate::kinds::{Sort, shape_of};
-
-pub fn higher(left: u16, right: u16) -> u16
-    ensures { result ≡ max left right }
-{
-    if left < right { right } else { left }
-}
 
 // The height of an operand among those of the entries before it, 0 where the field is unused.
 fn operand_height(heights: &[u16], sort: Option<Sort>, number: usize) -> u16

@@ -59,39 +59,6 @@ pub fn kind_of(number: usize) -> Option<Kind>
     }
 }
 
-// The numbers of the kinds.
-pub const SELF: u8 = 1;
-
-pub const CHILD: u8 = 2;
-
-pub const PARENT: u8 = 3;
-
-pub const NEXT: u8 = 4;
-
-pub const PREVIOUS: u8 = 5;
-
-pub const STAY: u8 = 6;
-
-pub const THEN: u8 = 7;
-
-pub const EITHER: u8 = 8;
-
-pub const STAR: u8 = 9;
-
-pub const LABELLED: u8 = 16;
-
-pub const LEADS: u8 = 17;
-
-pub const ALWAYS: u8 = 18;
-
-pub const NEVER: u8 = 19;
-
-pub const NOT: u8 = 20;
-
-pub const AND: u8 = 21;
-
-pub const OR: u8 = 22;
-
 // The sorts of entries.
 #[derive(Clone, Copy, PartialEq, Eq)]
 pub enum Sort {

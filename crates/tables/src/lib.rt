@@ -9,9 +9,5 @@ mod kinds;
 mod order;
 
 pub use check::{check_filters, check_query, whole};
-pub use entry::{count, entry_at, has_sort, kind_at, listed_kind, put, sort_at};
-pub use height::higher;
-pub use kinds::{
-    ALWAYS, AND, CHILD, EITHER, Kind, LABELLED, LEADS, NEVER, NEXT, NOT, OR, PARENT, PREVIOUS,
-    SELF, STAR, STAY, Sort, THEN, kind_of, shape_of,
-};
+pub use entry::{count, entry_at, has_sort, listed_kind, put, sort_at};
+pub use kinds::{Kind, Sort, kind_of, shape_of};

@@ -4,7 +4,7 @@ use borrow.Author.Rules.{rules}
 use Rattle.tables.proofs.entry.entry_at.Goals as goal
 
 pub returns-then-table-i : goal.returns-then-table-i
-returns-then-table-i c = fields_none c.args.table.now c.args.i (search rules)
+returns-then-table-i c = fields_none c.args.table.now c.args.i _ (search rules) c.default.ensures
 
 pub returns : goal.returns
 returns c =

@@ -8,4 +8,4 @@ use Rattle.tables.proofs.entry.sort_at.Goals as goal
 
 pub returns : goal.returns
 unfolding row_at
-returns c = c.sort_of.ensures ∙ ap (λ (k : ℕ). sort_of (row_of k)) c.kind_at.ensures
+returns c = c.sort_of.ensures ∙ ap (λ (k : ℕ). sort_of (row_of k)) c.entry_at.ensures.kind
