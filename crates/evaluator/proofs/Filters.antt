@@ -1,27 +1,11 @@
 -- A set narrowed to where a filter holds, for each filter that is made of others. Assumes nothing.
-use Prim.Native.Nat.{ℕ, ◌<◌}
-use mathlib.Core.Path.{◌≡◌}
+use Prim.Native.Nat.{ℕ}
 use mathlib.Core.Logic.{◌↔◌, ◌⊎◌, inl, inr, ⊎_elim}
 use mathlib.Core.List.{List}
-use Rattle.sets.specs.Sets.{In, Holds, Image, Narrowed, Inside}
+use Rattle.sets.specs.Sets.{In, Holds, Image, Narrowed}
 use Rattle.sets.proofs.Size.{dec_in}
 
 module _ {from : List ℕ} where
-  -- nothing is narrowed to nothing
-  pub narrow_empty : {P : ℕ → Type 0} → ((k : ℕ) → ¬ In from k) → Narrowed P from from
-  narrow_empty none = record { exact = λ k. (λ x. absurd (none k x), λ x. x.0) }
-
-  -- where the filter holds is known: what is in both sets
-  pub narrow_known : (P : ℕ → ℕ → Type 0) {n most e known : ℕ} {holding r : List ℕ} → e ≡ known
-      → (known < most → (k : ℕ) → k < n → In holding k ↔ P known k) → e < most → Inside n from
-      → Holds (λ k. In from k × In holding k) r → Narrowed (P e) from r
-  narrow_known P {e = e} same answer low inside both = record {
-    exact = λ k. (
-      λ x. let (y, z) = (both.exact k).0 x in (y, rw same ((answer (rw same at low) k (inside k y)).0 z)),
-      λ (x, p). (both.exact k).1 (x, (answer (rw same at low) k (inside k x)).1 (rw same at p)),
-    );
-  }
-
   -- "true" keeps the set, "false" leaves nothing
   pub narrow_always : Narrowed (λ k. Unit {0}) from from
   narrow_always = record { exact = λ k. (λ x. (x, tt), λ x. x.0) }

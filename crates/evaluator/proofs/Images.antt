@@ -8,10 +8,6 @@ use Rattle.query.proofs.Closure.{star_keeps, star_map, star_flat}
 use Rattle.sets.specs.Sets.{In, Holds, Image, Narrowed, Inside}
 
 module _ {from : List ℕ} where
-  -- nothing is reached from the empty set
-  pub image_empty : {R : ℕ → ℕ → Type 0} → ((k : ℕ) → ¬ In from k) → Image R from from
-  image_empty none = record { exact = λ j. (λ x. absurd (none j x), λ (i, x, r). absurd (none i x)) }
-
   -- a set is its own image under equality
   pub image_self : Image (λ i j. i ≡ j) from from
   image_self = record { exact = λ j. (λ x. (j, x, refl), λ (i, x, e). subst (In from) e x) }
@@ -73,7 +69,3 @@ star_stays {n} stays i j l s = star_keeps (λ k. k < n) stays l s
 -- the image of nodes is nodes
 pub image_inside : {n : ℕ} {R : ℕ → ℕ → Type 0} {from r : List ℕ} → Stays n R → Inside n from → Image R from r → Inside n r
 image_inside stays inside a k x = let (i, y, p) = (a.exact k).0 x in stays i k (inside i y) p
-
--- what a set is narrowed to is a part of it
-pub narrowed_inside : {n : ℕ} {P : ℕ → Type 0} {from r : List ℕ} → Inside n from → Narrowed P from r → Inside n r
-narrowed_inside inside a k x = inside k ((a.exact k).0 x).0

@@ -144,10 +144,6 @@ module _ {on : Evaluation} {s : Sort} {e : ℕ} {from : List ℕ} (k : Asks on s
       → (4 * x < t) × Asks on o x set
   operand_below m f inside = let (l, more) = operand m f inside in (omega arith, more)
 
-  -- it may be asked of the same nodes
-  pub operand_same : {o : Sort} {x t : ℕ} → 4 * e ≡ t → Part on.table.now e o x → (4 * x < t) × Asks on o x from
-  operand_same m f = operand_below m f k.asked.nodes_only
-
 -- the path of entry e is that of entry `first` and then that of entry `second`, on a course
 pub record InTurn (tab : Bytes) (course : Course) (e first second : ℕ) : Type 0 where
   pub one : Part tab e path first

@@ -16,10 +16,6 @@ use Rattle.visible.specs.Index.{FirstNamed}
 use Rattle.visible.specs.Answers.{HoldsAt, AnswersTo}
 
 module _ {roll annotation filters : Bytes} where
-  -- with no record passed there is nothing to answer
-  pub answers_none : {answers : List (List ℕ)} → AnswersTo roll annotation filters 0 answers
-  answers_none = record { answer = λ r h first. absurd (omega arith) }
-
   -- a record that is not the first to name its filter is not answered
   pub answers_same : {r s : ℕ} {answers : List (List ℕ)} → FirstNamed annotation r s → ¬ (s ≡ r) → AnswersTo roll annotation filters r answers
       → AnswersTo roll annotation filters (r + 1) answers

@@ -1,9 +1,8 @@
 -- A node is shown by the row of its pair, and the nodes shown are gathered in document order. Assumes nothing.
-use Prim.Native.Nat.{ℕ, ◌+◌, ◌≤◌, ◌<◌}
-use native.Mathlib.Nat.{eq-or-lt_of_le}
+use Prim.Native.Nat.{ℕ, ◌<◌}
 use native.Mathlib.Omega.{arith}
-use mathlib.Core.Path.{◌≡◌, refl, sym, subst, ◌∙◌}
-use mathlib.Core.Logic.{◌↔◌, ◌⊎◌, inl, inr, ⊎_elim}
+use mathlib.Core.Path.{◌≡◌, refl, sym, ◌∙◌}
+use mathlib.Core.Logic.{◌↔◌}
 use mathlib.Core.List.{List, []}
 use Rattle.std.specs.Prelude.{Option, Some, None, slice_index_or}
 use lib.ListN.{length}
@@ -53,32 +52,3 @@ module _ (t : Tree) (index : List (Option ℕ)) (answers : List (List ℕ)) wher
   -- after the last node, all that are shown are gathered
   pub all_shown : 0 < length t → {set : List ℕ} → ShownTo t index answers (length t) set → Holds (Shown t index answers) set
   all_shown some whole = record { exact = λ k. (λ m. ((whole.exact k).0 m).1, λ s. (whole.exact k).1 (shown_node some s, s)) }
-
--- Numbers with a property are gathered in turn.
-module _ {P : ℕ → Type 0} where
-  -- none is passed at first
-  pub none_gathered : {set : List ℕ} → Holds (λ k. ⊥) set → Holds (λ k. (k < 0) × P k) set
-  none_gathered none = record { exact = λ k. (λ m. absurd ((none.exact k).0 m), λ (l, x). absurd (omega arith)) }
-
-  module _ {i : ℕ} {set : List ℕ} (so_far : Holds (λ k. (k < i) × P k) set) where
-    -- i has it, and is added
-    pub one_gathered : {after : List ℕ} → P i → Holds (λ j. In set j ⊎ (i ≡ j)) after → Holds (λ k. (k < i + 1) × P k) after
-    one_gathered {after} p added = record {
-      exact = λ k. (
-        λ m. ⊎_elim (λ x. let (l, y) = (so_far.exact k).0 x in (omega arith, y)) (λ e. (omega arith, subst P e p)) ((added.exact k).0 m),
-        λ (l, y).
-            let le : k ≤ i = omega arith in
-            (added.exact k).1 (⊎_elim (λ e. inr (sym e)) (λ h. inl ((so_far.exact k).1 (h, y))) (eq-or-lt_of_le le)),
-      );
-    }
-
-    -- or it has not
-    pub none_more : ¬ P i → Holds (λ k. (k < i + 1) × P k) set
-    none_more out = record {
-      exact = λ k. (
-        λ m. let (l, y) = (so_far.exact k).0 m in (omega arith, y),
-        λ (l, y).
-            let le : k ≤ i = omega arith in
-            ⊎_elim (λ e. absurd (out (rw e at y))) (λ h. (so_far.exact k).1 (h, y)) (eq-or-lt_of_le le),
-      );
-    }

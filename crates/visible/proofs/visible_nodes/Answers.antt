@@ -4,11 +4,6 @@ use Rattle.visible.proofs.Indexing.{annotation_labelled, records_most}
 use Rattle.visible.proofs.Deciding.{shown_visible}
 use Rattle.visible.proofs.visible_nodes.Goals as goal
 
-pub answer-answers-requires : goal.answer-answers-requires
-answer-answers-requires c =
-    let (right, annotated) = c.requires in
-    (record { roll_right = right; linked = c.link.ensures; each = λ i l. (annotated.table.entry i l).right }, annotated)
-
 pub index_of-index-requires : goal.index_of-index-requires
 index_of-index-requires c =
     let records = c.requires.1.records in

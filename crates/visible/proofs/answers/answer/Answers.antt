@@ -1,10 +1,9 @@
 -- `answer`. The loop's invariant: the records passed are answered.
-use Prim.Native.Nat.{ℕ, ◌<◌}
+use Prim.Native.Nat.{◌<◌}
 use native.Mathlib.Omega.{arith}
-use mathlib.Core.List.{List}
-use lib.ListN.{length-set, length-replicate}
+use lib.ListN.{length-set}
 use Rattle.visible.proofs.Indexing.{records_most}
-use Rattle.visible.proofs.Answering.{answers_none, answers_same, answers_more}
+use Rattle.visible.proofs.Answering.{answers_same, answers_more}
 use Rattle.visible.proofs.answers.answer.Goals as goal
 use Rattle.visible.proofs.answers.answer.Goals.{After-first_named, then-first_named-r, else-first_named-r}
 
@@ -12,21 +11,11 @@ use Rattle.visible.proofs.answers.answer.Goals.{After-first_named, then-first_na
 low : (c : After-first_named) → c.loop-r.r < 32
 low c = omega (arith, records_most c.requires.1.records)
 
-pub loop-r-init : goal.loop-r-init
-loop-r-init c = record { size = length-replicate {A = List ℕ} 32 c.empty-answers.result; so_far = answers_none }
-
 pub offset_bounds-answers-r : goal.offset_bounds-answers-r
 offset_bounds-answers-r c = omega (arith, low (goal.at.offset_bounds-answers-r c).After-first_named)
 
 pub bounds-answers-r : goal.bounds-answers-r
 bounds-answers-r c = low (goal.at.bounds-answers-r c).After-first_named
-
-pub nodes_where-requires : goal.nodes_where-requires
-nodes_where-requires c =
-    let (grounds, annotated) = c.requires in
-    let form = (annotated.records.each c.loop-r.r (omega arith)).form in
-    let own = c.record_at-own.ensures.filter in
-    (grounds, record { within = rw own form.named; sort = rw own form.filter })
 
 pub loop-r-preserved : goal.loop-r-preserved
 loop-r-preserved c =
