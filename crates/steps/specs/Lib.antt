@@ -1,3 +1,4 @@
 pub mod Axis
 pub mod Added
 pub mod Star
+pub mod Walk

@@ -5,6 +5,7 @@ ghost use Rattle.sets.specs.Sets.{Image};
 ghost use Rattle.links.specs.Links.{Siblings};
 ghost use Rattle.steps.specs.Axis.{AlongAny};
 ghost use Rattle.steps.specs.Added.{Added, LedTo};
+ghost use Rattle.steps.specs.Walk.{Ready};
 
 use crate::axis::Axes;
 use crate::walk::Walk;
@@ -13,7 +14,7 @@ use sets::Ones;
 impl Walk<'_> {
     // Adds what a step reaches from the members in one word, the w-th.
     fn add_word(&self, w: usize, word: u64, out: &mut [u64; 64])
-        requires roll { Roll self.now.roll.now × Siblings (nodes self.now.roll.now) self.now.links.now }
+        requires roll { Ready self.now }
         requires w_bound { w < 64 }
         ensures { Added (LedTo (λ k. AlongAny (nodes self.now.roll.now) self.now.axes (64 * w + k)) word) out.old out.new }
     {

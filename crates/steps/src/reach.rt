@@ -2,9 +2,10 @@
 ghost use Rattle.std.specs.Prelude.{◌<◌, get_or};
 ghost use Rattle.tree.specs.Tree.{Child};
 ghost use Rattle.roll.specs.Roll.{nodes, Roll};
-ghost use Rattle.links.specs.Links.{LinkIs, NumberIs, Siblings};
+ghost use Rattle.links.specs.Links.{LinkIs, NumberIs};
 ghost use Rattle.steps.specs.Axis.{AlongAny};
 ghost use Rattle.steps.specs.Added.{Added, FirstChild, Leads};
+ghost use Rattle.steps.specs.Walk.{Ready};
 
 use crate::walk::Walk;
 use links::NONE;
@@ -42,7 +43,7 @@ pub fn first_child(roll: &[u8], i: usize) -> Option<usize>
 impl Walk<'_> {
     // Adds the children of i, from the first one on from sibling to sibling.
     fn add_children(&self, i: usize, out: &mut [u64; 64])
-        requires roll { Roll self.now.roll.now × Siblings (nodes self.now.roll.now) self.now.links.now }
+        requires roll { Ready self.now }
         requires i_bound { i < 4096 }
         ensures { Added (Child (nodes self.now.roll.now) i) out.old out.new }
     {
@@ -55,7 +56,7 @@ impl Walk<'_> {
 
     // Adds the parent of i.
     fn add_parent(&self, i: usize, out: &mut [u64; 64])
-        requires { Roll self.now.roll.now × Siblings (nodes self.now.roll.now) self.now.links.now }
+        requires { Ready self.now }
         ensures { Added (λ j. Child (nodes self.now.roll.now) j i) out.old out.new }
     {
         if 0 < i {
@@ -67,7 +68,7 @@ impl Walk<'_> {
 
     // Adds where the link leads that stands at a place.
     fn add_linked(&self, place: usize, out: &mut [u64; 64])
-        requires roll { Roll self.now.roll.now × Siblings (nodes self.now.roll.now) self.now.links.now }
+        requires roll { Ready self.now }
         requires place_bound { place < 8192 }
         ensures { Added (Leads self.now.links.now place) out.old out.new }
     {
@@ -78,7 +79,7 @@ impl Walk<'_> {
 
     // Adds what a step along one of the axes reaches from i.
     pub(crate) fn add_along(&self, i: usize, out: &mut [u64; 64])
-        requires roll { Roll self.now.roll.now × Siblings (nodes self.now.roll.now) self.now.links.now }
+        requires roll { Ready self.now }
         requires i_bound { i < 4096 }
         ensures { Added (AlongAny (nodes self.now.roll.now) self.now.axes i) out.old out.new }
     {

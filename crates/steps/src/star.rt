@@ -5,6 +5,7 @@ ghost use Rattle.query.specs.Meaning.{Star};
 ghost use Rattle.sets.specs.Sets.{Image};
 ghost use Rattle.links.specs.Links.{Siblings};
 ghost use Rattle.steps.specs.Star.{Waits, Digits, WordWith, StepFrom, GoneOn};
+ghost use Rattle.steps.specs.Walk.{Ready};
 
 use crate::axis::Axes;
 use crate::walk::Walk;
@@ -33,7 +34,7 @@ fn first_waiting(set: &[u64; 64], sources: &[u64; 64], gone: &[u64; 64]) -> Opti
 impl Walk<'_> {
     // Goes on from the nodes of word w that wait, from the lowest up, until there are none.
     fn go_on(&self, sources: &[u64; 64], w: usize, set: &mut [u64; 64], gone: &mut [u64; 64])
-        requires roll { Roll self.now.roll.now × Siblings (nodes self.now.roll.now) self.now.links.now }
+        requires roll { Ready self.now }
         requires w_bound { w < 64 }
         ensures gone_on { GoneOn (StepFrom (nodes self.now.roll.now) self.now.axes sources.now) set.old gone.old set.new gone.new }
         ensures by_index { (k : ℕ) → k < 64 → ¬ Waits set.new sources.now gone.new (64 * w + k) }
