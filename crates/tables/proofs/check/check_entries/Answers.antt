@@ -1,10 +1,9 @@
 -- `tables::check::check_entries`: the walk comes to the lowest entry that is not in order or too high, or to the end.
-use mathlib.Core.Path.{refl}
 use lib.ListN.{length-set}
 use native.Mathlib.Omega.{arith}
 use Rattle.tree.proofs.Tests.{test_passed, test_failed}
 use Rattle.query.specs.Table.{entries, EntryRight}
-use Rattle.tables.proofs.Walk.{walk_starts, walk_on, walk_ends, walk_malformed, walk_high}
+use Rattle.tables.proofs.Walk.{walk_on, walk_ends, walk_malformed, walk_high}
 use Rattle.tables.proofs.check.check_entries.Goals as goal
 use Rattle.tables.proofs.check.check_entries.Goals.{Else-not-entry_right}
 
@@ -12,9 +11,6 @@ use Rattle.tables.proofs.check.check_entries.Goals.{Else-not-entry_right}
 ordered : (c : Else-not-entry_right)
     → EntryRight (entries c.args.table.now) c.loop-i.i
 ordered c = test_passed c.entry_right.result c.entry_right.ensures c.if-not-entry_right.false
-
-pub loop-i-init : goal.loop-i-init
-loop-i-init c = record { counted = c.count-n.ensures; room = refl; walked = walk_starts _ _ _ }
 
 pub returns-then-not-entry_right : goal.returns-then-not-entry_right
 returns-then-not-entry_right c limit same =
