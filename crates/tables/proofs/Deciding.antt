@@ -3,17 +3,16 @@ use Prim.Native.Nat.{ℕ, ◌*◌, ◌%◌, ◌≤◌}
 use native.Mathlib.Omega.{arith}
 use mathlib.Core.Path.{◌≡◌, refl, sym, ◌∙◌, subst}
 use mathlib.Core.Logic.{◌↔◌}
-use mathlib.Core.Bool.{Bool, true, false, ◌&&◌}
+use mathlib.Core.Bool.{Bool, ◌&&◌}
 use mathlib.Core.Option.{Option, none, some}
 use lib.Dec.{T, leb, ltb, eqb, leb→le, le→leb}
 use lib.ListN.{length}
 use Rattle.reply.specs.Bytes.{Bytes, Whole}
-use Rattle.tree.specs.Tree.{Label}
 use Rattle.tree.proofs.Tests.{Decides, less_test, equal_test, and_test, same_test}
 use Rattle.std.specs.Prelude.{Option as Maybe, Some, None}
 use Rattle.std.specs.Option.{is_some}
-use Rattle.query.specs.Kind.{Sort, unused, of, Row, row_of}
-use Rattle.query.specs.Table.{Entries, entry_at, row_at, HasSort, LabelField, OperandField, EntryRight}
+use Rattle.query.specs.Kind.{Row, row_of}
+use Rattle.query.specs.Table.{Entries, entry_at, row_at, LabelField, OperandField, EntryRight}
 use Rattle.query.specs.Fault.{Limits, QueryLength}
 use Rattle.tables.specs.declared.entry.Entry.{Entry}
 use Rattle.tables.specs.Fields.{Fields}
@@ -38,26 +37,6 @@ pub length_test : {w : Bool} (limit : Limits) (b : Bytes) → Decides w (Whole 6
 length_test limit b test =
     same_test (and_test (less_test 0 (length b)) test)
     (λ p. record { some = p.0; size = p.1 }, λ (h : QueryLength limit b). (h.some, h.size))
-
--- a label that is used is one of 1 to 64
-pub label_used : (b : Bool) (l : ℕ) → T b ↔ Label l → T b ↔ LabelField true l
-unfolding LabelField
-label_used b l test = test
-
--- a label that is not used is 0
-pub label_unused : (l : ℕ) → Decides (eqb l 0) (LabelField false l)
-unfolding LabelField
-label_unused l = equal_test l 0
-
--- an operand that is not used is 0
-pub operand_unused : (es : Entries) (i x : ℕ) → Decides (eqb x 0) (OperandField es i unused x)
-unfolding OperandField
-operand_unused es i x = equal_test x 0
-
--- an operand that is used is the number of an earlier entry of its sort
-pub operand_used : {b : Bool} (es : Entries) (i x : ℕ) (s : Sort) → Decides b (HasSort es x s) → Decides (ltb x i && b) (OperandField es i (of s) x)
-unfolding OperandField
-operand_used es i x s sorted = and_test (less_test x i) sorted
 
 -- a number is a kind's where it has a sort
 listed_test : (row : Option Row) (sort : Maybe CodeSort) → operand sort ≡ sort_of row → Decides (is_some sort) (¬ (row ≡ none))
