@@ -1,10 +1,12 @@
 -- The constant table over kind numbers says what the list of kinds says: it is computed from the list, and no kind stands behind it.
 -- Assumes nothing.
-use Prim.Native.Nat.{ℕ, zero, suc, ◌+◌, ◌≤◌, ◌<◌}
+use Prim.Native.Nat.{ℕ, ◌≤◌, ◌<◌}
 use native.Mathlib.Omega.{arith}
 use mathlib.Core.Path.{◌≡◌, refl, sym, ap, ◌∙◌}
 use mathlib.Core.Logic.{◌≢◌}
-use mathlib.Core.List.{List, [], ◌∷◌}
+use mathlib.Core.List.{List, [], ◌∷◌, map}
+use Rattle.std.proofs.lemmas.List.FromFn.{get_or-map-range_with_len}
+use Rattle.std.specs.List.{range_with_len}
 use mathlib.Core.Option.{Option, none, some-ne-none}
 use mathlib.Core.Bool.{Bool, true, false, ◌&&◌}
 use lib.Dec.{T, ltb, ltb→lt}
@@ -20,18 +22,6 @@ use Rattle.tables.specs.declared.kinds.Row.{Row as Written}
 use Rattle.tables.specs.declared.kinds.Sort.{Sort}
 use Rattle.tables.specs.declared.kinds.Sort.TheVariants.{Path, Filter}
 use Rattle.tables.specs.Shape.{operand, sort_of, left_of, right_of, label_of, Listed}
-
--- the values of a function at n numbers from i on
-unfoldable pub values_from : {A : Type 0} → (ℕ → A) → ℕ → ℕ → List A
-values_from f i zero = []
-values_from f i (suc n) = f i ∷ values_from f (suc i) n
-
--- each value stands at its place
-values_at : {A : Type 0} (f : ℕ → A) (d : A) (i n k : ℕ) → k < n → get_or (values_from f i n) k d ≡ f (i + k)
-unfolding values_from
-values_at f d i zero k l = absurd (omega arith)
-values_at f d i (suc n) zero l = ap f (omega arith)
-values_at f d i (suc n) (suc k) l = values_at f d (suc i) n k (omega arith) ∙ ap f (omega arith)
 
 -- the field of an operand
 abbrev field : Operand → Maybe Sort
@@ -56,10 +46,8 @@ fields_right row =
     record { sort = field_lem (sort_of row); left = field_lem (left_of row); right = field_lem (right_of row); label = refl }
 
 -- the table of the fields of each kind's row, which is what the code's constant table computes to, says what the list says
-pub table_right : (kind : ℕ) (d : Written) → kind < 23 → Listed (row_of kind) (get_or (values_from (λ k. fields_of (row_of k)) 0 23) kind d)
-table_right kind d l =
-    let here : 0 + kind ≡ kind = omega arith in
-    rw (values_at (λ k. fields_of (row_of k)) d 0 23 kind l, here) (fields_right (row_of kind))
+pub table_right : (kind : ℕ) (d : Written) → kind < 23 → Listed (row_of kind) (get_or (map (λ k. fields_of (row_of k)) (range_with_len 0 23)) kind d)
+table_right kind d l = rw (get_or-map-range_with_len (λ k. fields_of (row_of k)) 0 23 kind kind d l (omega arith)) (fields_right (row_of kind))
 
 -- every row has a number below n
 unfoldable numbers_below : ℕ → List Row → Bool
