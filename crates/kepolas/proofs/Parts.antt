@@ -35,8 +35,8 @@ module _ {roll : Bytes} {k : ℕ} where
 
 module _ {table part : Bor Bytes} {k : ℕ} (given : RunGiven table k part) where
   -- the same of a part that was given
-  pub empty_place : length part.now ≡ 0 → RunPlace table.now k 0 0
-  empty_place z = empty given.place (rw given.bytes at z)
+  pub empty_place : {s e : ℕ} → length part.now ≡ 0 → s ≡ 0 → e ≡ 0 → RunPlace table.now k s e
+  empty_place z start end = rw (start, end) (empty given.place (rw given.bytes at z))
 
   pub full_place : 0 < length part.now → RunPlace table.now k (4 * k) (4 * k + length part.now) × (4 * k + length part.now ≤ 16384)
   full_place z = rw given.bytes (full given.place (rw given.bytes at z))

@@ -1,5 +1,5 @@
 // The calls for C and Rust, on numbers and slices of bytes. A call returns the refusal's number, or 0 where it gives a count; the count, or
-// the refusal's place, it writes to a number that the caller lends.
+// the refusal's place, it writes to a number that the caller lends. The nine calls are written out, since each is an export of its own.
 
 #![tactic(auto)]
 
@@ -110,14 +110,8 @@ pub fn kepolas_run_of(roll: &[u8], k: usize, start: &mut usize, end: &mut usize)
     ensures { RunPlace roll.now k start.new end.new }
 {
     let size = run_of(roll, k).len();
-    if size == 0 {
-        *start = 0;
-        *end = 0;
-    } else {
-        let first = 4 * k;
-        *start = first;
-        *end = first + size;
-    }
+    *start = if size == 0 { 0 } else { 4 * k };
+    *end = *start + size;
 }
 
 // A query table printed as text: request Q-1 of document 02.

@@ -1,4 +1,5 @@
-// The library for C and Rust: each export is the call of its name in `kepolas`, with the same promise.
+// The library for C and Rust: each export is the call of its name in `kepolas`, with the same promise. C finds a function by its name
+// alone and has no generic one, so each is written out, with plain numbers in and out.
 
 #![tactic(auto)]
 

@@ -6,7 +6,7 @@ use Rattle.kepolas.specs.Told.{heard}
 use Rattle.kepolas.proofs.Refusals.{heard_refused}
 use Rattle.kepolas.proofs.tell.Goals as goal
 
-pub returns-in-Refused : goal.returns-in-Refused
-returns-in-Refused c =
-    let refusal = c.in-Refused.refusal in
-    ap (λ (n : ℕ). heard n refusal.place) c.number_of.ensures ∙ heard_refused refusal.reason ∙ sym (ap said c.in-Refused.is)
+pub returns-in-Err : goal.returns-in-Err
+returns-in-Err c =
+    let refusal = c.in-Err.refusal in
+    ap (λ (n : ℕ). heard n refusal.place) c.number_of.ensures ∙ heard_refused refusal.reason ∙ sym (ap said c.in-Err.is)
