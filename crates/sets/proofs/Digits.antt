@@ -164,9 +164,9 @@ put_in w n k l j =
     rw (shifted w k l) (Iff.trans (or_one n (2 ^ k) j) (⊎_map (λ e. e) one.0, ⊎_map (λ e. e) one.1))
 
 -- a digit taken out of a word
-pub taken : (n k : ℕ) → k < 64 → digit n k ≡ 1 → Taken n k (bit_xor n (2 ^ k))
+pub taken : (n k : ℕ) → k < 64 → digit n k ≡ 1 → ((j : ℕ) → j < k → ¬ (digit n j ≡ 1)) → Taken n k (bit_xor n (2 ^ k))
 unfolding digit
-taken n k low e = record { low = low; one = e; others = others; less = less }
+taken n k low e lower = record { low = low; one = e; lowest = lower; others = others; less = less }
   where
     less : bit_xor n (2 ^ k) < n
     less =
@@ -190,7 +190,14 @@ pub lowest : (n : ℕ) → n ≢ 0 → n < 2 ^ 64 → (count_trailing_zeros 64 n
 unfolding digit
 lowest n f h = let (low, one, _) = bit_at-trailing_zeros w64 n (omega arith) h in (low, one)
 
+-- below it there is none
+none_lower : (n : ℕ) → n ≢ 0 → n < 2 ^ 64 → (j : ℕ) → j < count_trailing_zeros 64 n → ¬ (digit n j ≡ 1)
+unfolding digit
+none_lower n f h j l o =
+    let (_, _, none) = bit_at-trailing_zeros w64 n (omega arith) h in
+    let z = none j l in omega arith
+
 -- the lowest: `let k = n.trailing_zeros(); n ^= 1 << k;`
 pub take_lowest : (n : ℕ) → n ≢ 0 → n < 2 ^ 64 → Taken n (count_trailing_zeros 64 n) (bit_xor n (1 * 2 ^ count_trailing_zeros 64 n % 2 ^ 64))
 take_lowest n f h =
-    let (low, one) = lowest n f h in rw (shifted 64 (count_trailing_zeros 64 n) low) (taken n (count_trailing_zeros 64 n) low one)
+    let (low, one) = lowest n f h in rw (shifted 64 (count_trailing_zeros 64 n) low) (taken n (count_trailing_zeros 64 n) low one (none_lower n f h))

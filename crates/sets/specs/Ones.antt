@@ -2,10 +2,11 @@
 use Rattle.std.specs.Prelude.{ℕ, ◌<◌, ◌≡◌, ◌≢◌, ◌↔◌, Bool, true, false, Option, Some, None}
 use Rattle.sets.specs.Bits.{digit}
 
--- `rest` is the word with its digit k taken out
+-- k is the lowest digit of the word that is 1, and `rest` is the word without it
 pub record Taken (word k rest : ℕ) : Type 0 where
   pub low : k < 64
   pub one : digit word k ≡ 1
+  pub lowest : (j : ℕ) → j < k → ¬ (digit word j ≡ 1)
   pub others : (j : ℕ) → (digit rest j ≡ 1) ↔ ((digit word j ≡ 1) × (j ≢ k))
   pub less : rest < word
 
