@@ -1,17 +1,14 @@
 -- Sets that are kept: the first of them, for a star, and the others, which are lent on for what is in it. Assumes nothing.
-use Prim.Native.Nat.{ℕ, ◌+◌, ◌-◌, ◌≤◌, ◌<◌}
+use Prim.Native.Nat.{ℕ, ◌+◌, ◌-◌, ◌≤◌}
 use native.Mathlib.Omega.{arith}
-use mathlib.Core.Path.{◌≡◌, refl, sym, ap, subst, ◌∙◌}
-use mathlib.Core.Logic.{◌⊎◌, inr}
-use mathlib.Core.List.{List, [], ◌∷◌, ◌++◌, append-nil}
-use lib.ListN.{length, get_or, set, take, drop, drop_of_length-le, length-drop, length-take, length-set, length-append}
-use lib.Seq.{drop-cons, get_or-set_same, take-append_seam, drop-append_seam}
+use mathlib.Core.Path.{◌≡◌, sym, ap, subst, ◌∙◌}
+use mathlib.Core.List.{◌++◌, append-nil}
+use lib.ListN.{length, take, drop, drop_of_length-le, length-drop, length-take}
+use lib.Seq.{take-append_seam, drop-append_seam}
 use borrow.Rule.Slice.PartMut.{put_mid}
 use borrow.Author.Rules.{part_to_end}
-use Rattle.sets.specs.Sets.{In, Holds, Inside}
-use Rattle.rules.specs.Language.{Expression, star, Word}
-use Rattle.matching.specs.Settled.{Kept, share, Passed}
-use Rattle.matching.proofs.Rounds.{Rounds, left, round_less, first_round, next_round, last_round}
+use Rattle.rules.specs.Language.{Expression}
+use Rattle.matching.specs.Settled.{Kept, share}
 
 -- what was lent from the a-th to the end comes back behind the first a
 comes_back : (a : ℕ) (kept others : Kept) → put_mid a (length kept - a) kept others ≡ take a kept ++ others
@@ -30,13 +27,6 @@ pub record Divided (a : Expression) (kept : Kept) (n : ℕ) (first second : Kept
   pub all : length first + length second ≡ length kept
   pub back : put_mid n (length (first ++ drop n kept) - n) (first ++ drop n kept) second ≡ first ++ second
 
-module _ {a : Expression} {kept : Kept} {n : ℕ} {first second : Kept} (parts : Divided a kept n first second) where
-  pub as_many : length (first ++ second) ≡ length kept
-  as_many = length-append first second ∙ parts.all
-
-  pub as_many_back : length (put_mid n (length (first ++ drop n kept) - n) (first ++ drop n kept) second) ≡ length kept
-  as_many_back = ap length parts.back ∙ as_many
-
 -- the first have come back
 module _ (kept first : Kept) {n : ℕ} (within : n ≤ length kept) (fits : length first ≡ length (take n kept)) where
   first_size : length first ≡ n
@@ -44,9 +34,6 @@ module _ (kept first : Kept) {n : ℕ} (within : n ≤ length kept) (fits : leng
 
   pub first_back : take n (first ++ drop n kept) ≡ first
   first_back = subst (λ (m : ℕ). take m (first ++ drop n kept) ≡ first) first_size (take-append_seam first (drop n kept))
-
-  pub as_many_again : length (first ++ drop n kept) ≡ length kept
-  as_many_again = omega (arith, length-append first (drop n kept), length-drop n kept, first_size)
 
   behind_first : drop n (first ++ drop n kept) ≡ drop n kept
   behind_first = subst (λ (m : ℕ). drop m (first ++ drop n kept) ≡ drop n kept) first_size (drop-append_seam first (drop n kept))

@@ -1,17 +1,17 @@
 -- What an entry is found to be, and the places that are asked and reached. Assumes nothing.
-use Prim.Native.Nat.{ℕ, ◌+◌, ◌*◌, ◌<◌, min}
+use Prim.Native.Nat.{ℕ, ◌+◌, ◌*◌, ◌<◌}
 use native.Mathlib.Omega.{arith}
-use mathlib.Core.Path.{◌≡◌, refl, sym, ap, subst, ◌∙◌}
+use mathlib.Core.Path.{◌≡◌, refl, sym, subst}
 use mathlib.Core.Logic.Iff
 use mathlib.Core.Logic.{◌↔◌, ◌⊎◌, inl, inr, ⊎_elim, ⊎_map}
 use mathlib.Core.List.{List}
-use lib.ListN.{length, get_or}
+use lib.ListN.{length}
 use Rattle.reply.specs.Bytes.{Bytes}
 use Rattle.std.specs.Prelude.{Option, Some, None, MatchOption, IsSome}
 use Rattle.std.proofs.Math.Logic.{∥∥₁_elim}
 use Rattle.query.specs.Table.{Entries, entries}
 use Rattle.sets.specs.Sets.{In, Holds, Image, Inside}
-use Rattle.rules.specs.Language.{Expression, Word, InLanguage, empty, one, then, either, star}
+use Rattle.rules.specs.Language.{Expression, Word, InLanguage, then, either}
 use Rattle.rules.specs.declared.Rule.{Rule}
 use Rattle.rules.specs.Table.{EntryRight}
 use Rattle.rules.specs.Read.{Is}
@@ -35,9 +35,6 @@ ask_of l inside = record { entry = l; places = inside }
 
 module _ {w : Word} where
   -- every place that is reached is in the word
-  pub reached_inside : {x : Expression} {set r : List ℕ} → Image (Spans x w) set r → Inside (length w + 1) r
-  reached_inside f q x = let (p, y, s) = (f.exact q).0 x in omega (arith, s.within)
-
   pub led_inside : {x : Expression} {kept kept' : Kept} {set r : List ℕ} → Passed x w kept set kept' r → Inside (length w + 1) r
   led_inside f q x = let (p, y, s) = f.led q x in omega (arith, s.within)
 
@@ -52,10 +49,6 @@ module _ {w : Word} where
 -- ---- where each kind leads from a set, for what is asked once
 
 module _ {w : Word} {set : List ℕ} where
-  -- from no place nothing is reached
-  pub once_none : {x : Expression} → ((k : ℕ) → ¬ In set k) → Image (Spans x w) set set
-  once_none none = record { exact = λ q. (λ x. absurd (none q x), λ (p, x, s). absurd (none p x)) }
-
   pub once_then : {a b : Expression} {half r : List ℕ} → Image (Spans a w) set half → Image (Spans b w) half r
       → Image (Spans (then a b) w) set r
   once_then f g = record {

@@ -1,21 +1,20 @@
 -- What is kept of stars says what was asked and found, and asking an expression of a set keeps it true, kind by kind. Assumes nothing.
-use Prim.Native.Nat.{ℕ, zero, suc, ◌+◌, ◌<◌, min}
+use Prim.Native.Nat.{ℕ, zero, suc, ◌+◌, min}
 use native.Mathlib.Omega.{arith}
 use mathlib.Core.Path.{◌≡◌, refl, sym, ap, subst, ◌∙◌}
 use mathlib.Core.Logic.{◌↔◌, ◌⊎◌, inl, inr, ⊎_elim, ⊎_map}
 use mathlib.Core.Bool.{false}
 use mathlib.Core.List.{List, [], ◌∷◌, ◌++◌}
 use lib.Dec.{T}
-use lib.ListN.{length, get_or, set, take, drop, length-append, length-take, length-drop}
-use lib.Seq.{take-append_seam, drop-append_seam, get_or-take, get_or-drop, get_or-set_same, get_or-set_other}
-use borrow.Author.Count.{below_more}
+use lib.ListN.{length, set, take, drop, length-append, length-take, length-drop}
+use lib.Seq.{take-append_seam, drop-append_seam, get_or-take, get_or-drop}
 use Rattle.tree.proofs.Tests.{passes, or_test}
 use Rattle.query.proofs.Closure.{star_keeps}
 use Rattle.sets.specs.Sets.{In, Holds, Image, Inside}
 use Rattle.sets.proofs.Size.{in_test}
 use Rattle.rules.specs.Language.{Expression, empty, one, then, either, star, Word}
 use Rattle.matching.specs.Spans.{Spans}
-use Rattle.matching.specs.Settled.{Places, members, and_those, Kept, stars, share, Passed, EmptyTo, Cleared}
+use Rattle.matching.specs.Settled.{Places, members, and_those, Kept, stars, share, Passed, Cleared}
 use Rattle.matching.specs.Settled.{Settled, nothing, one_label, in_turn, one_of_two, same_twice, alone, gone_on}
 use Rattle.matching.proofs.Spanning.{spans_empty, spans_then, spans_either, spans_star}
 
@@ -45,14 +44,6 @@ and_more A set more joined k x = (in_those A more k).1 (⊎_elim inl (joined k) 
 pub one_cleared : {none : List ℕ} → Holds (λ k. ⊥) none → Cleared (none ∷ [])
 one_cleared none zero l k x = (none.exact k).0 x
 one_cleared none (suc i) l k x = absurd (omega (arith, l))
-
--- one more is emptied
-pub one_emptied : (kept : Kept) {i : ℕ} {none : List ℕ} → EmptyTo kept i → i < length kept → Holds (λ k. ⊥) none
-    → EmptyTo (set kept i none) (i + 1)
-one_emptied kept {i} {none} before room holds =
-    below_more (λ j. (k : ℕ) → ¬ In (get_or (set kept i none) j []) k) i
-    (λ j l k x. before j l k (subst (λ (s : List ℕ). In s k) (get_or-set_other kept i j none [] (omega arith)) x))
-    (λ k x. (holds.exact k).0 (subst (λ (s : List ℕ). In s k) (get_or-set_same kept i none [] room) x))
 
 cleared_front : (kept : Kept) (n : ℕ) → Cleared kept → Cleared (take n kept)
 cleared_front kept n none i l k x =

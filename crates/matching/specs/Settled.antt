@@ -5,7 +5,7 @@ use Rattle.query.specs.Table.{Entries, entries}
 use Rattle.sets.specs.Bits.{bit_of}
 use Rattle.sets.specs.Sets.{In, Inside}
 use Rattle.rules.specs.Language.{Expression, empty, one, then, either, star, Word}
-use Rattle.rules.specs.Table.{EntryRight, expression_at}
+use Rattle.rules.specs.Table.{expression_at}
 use Rattle.matching.specs.Spans.{Spans}
 
 -- places in a word, by a test

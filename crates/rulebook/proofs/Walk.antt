@@ -4,7 +4,7 @@ use native.Mathlib.Omega.{arith}
 use mathlib.Core.Path.{◌≡◌}
 use mathlib.Core.List.{List}
 use lib.ListN.{length, set}
-use borrow.Author.Count.{below_none, below_more}
+use borrow.Author.Count.{below_more}
 use Rattle.reply.specs.Reply.{Said, count, refused}
 use Rattle.reply.specs.Bytes.{Bytes}
 use Rattle.reply.proofs.Checking.{passes, fails}
@@ -28,10 +28,6 @@ module _ {Fits : ℕ → Type 0} {size i : ℕ} (before : (k : ℕ) → k < i �
 pub record Walked (rules : Bytes) (heights : List ℕ) (i : ℕ) : Type 0 where
   pub fits : (k : ℕ) → k < i → EntryFits rules k
   pub known : HeightsKnown (entries rules) heights i
-
--- before the first entry nothing is known
-pub walk_starts : (rules : Bytes) (heights : List ℕ) → Walked rules heights 0
-walk_starts rules heights = record { fits = below_none _; known = below_none _ }
 
 -- an entry in order that is not too high is walked over
 pub walk_on : {rules : Bytes} {heights : List ℕ} {i below : ℕ} → Walked rules heights i → EntryRight (entries rules) i

@@ -1,7 +1,7 @@
 -- `check_nodes`: the children of the nodes that have been passed are allowed.
 use Prim.Native.Nat.{◌<◌}
 use native.Mathlib.Omega.{arith}
-use mathlib.Core.Path.{refl, sym, ◌∙◌}
+use mathlib.Core.Path.{◌∙◌}
 use mathlib.Core.Logic.Iff
 use mathlib.Core.Logic.{◌↔◌}
 use borrow.Author.Count.{below_more}
@@ -11,7 +11,7 @@ use Rattle.reply.proofs.Checking.{passes, fails}
 use Rattle.tree.proofs.Tests.{test_failed, test_passed}
 use Rattle.roll.specs.Roll.{nodes}
 use Rattle.rules.specs.Rules.{Allowed, forbidden}
-use Rattle.content.proofs.Ruling.{few, names_entries, ruled}
+use Rattle.content.proofs.Ruling.{few, ruled}
 use Rattle.content.proofs.check_nodes.Goals as goal
 use Rattle.content.proofs.check_nodes.Goals.{After-allows, In-loop-i}
 
@@ -28,30 +28,13 @@ judged c =
     let node : c.loop-i.i < length (nodes c.args.roll.now) = omega (arith, c.loop-i-test.true, c.count-n.ensures) in
     Iff.trans c.allows.ensures (ruled given.1 (c.rules_by_label.ensures.each _ (given.0.node _ node).label.most))
 
-pub rules_by_label-requires : goal.rules_by_label-requires
-rules_by_label-requires c =
-    let right = c.requires.1 in
-    λ k l. (right.each k l).label.most
-
 pub count_stars-requires : goal.count_stars-requires
 count_stars-requires c =
     let right = c.requires.1 in
     record { rules_len_bound = few right; by_index = λ i l. (right.entry i l).right }
 
-pub loop-i-init : goal.loop-i-init
-loop-i-init c = (refl, λ k l. absurd (omega arith))
-
-pub slice_bounds-allows-end : goal.slice_bounds-allows-end
-slice_bounds-allows-end c = sym c.loop-i.invariant.0
-
-pub allows-requires : goal.allows-requires
-allows-requires c = record {
-  roll = (c.requires.0, c.link.ensures.onwards);
-  by_index = λ k l. (c.requires.1.entry k l).right;
-  named = names_entries c.requires.1 c.rules_by_label.ensures;
-  counted = c.count_stars.ensures;
-  i_in_bounds = node (goal.at.allows-requires c).In-loop-i;
-}
+pub allows-requires-clause-by_index : goal.allows-requires-clause-by_index
+allows-requires-clause-by_index c = λ k l. (c.requires.1.entry k l).right
 
 pub returns-then-not-allows : goal.returns-then-not-allows
 returns-then-not-allows c =

@@ -1,5 +1,4 @@
 -- `matches`: a word is one of the entry's where the place behind it is reached from the place before it.
-use native.Mathlib.Omega.{arith}
 use mathlib.Core.Logic.Iff
 use Rattle.matching.proofs.Passing.{only_first, from_first}
 use Rattle.matching.proofs.matches.Goals as goal
@@ -10,11 +9,6 @@ invariant_of-matching c = record {
   counted = c.requires.counted;
   holds = c.words_of.ensures;
 }
-
-pub pass_once-requires : goal.pass_once-requires
-pass_once-requires c =
-    let first = only_first c.empty-set.ensures c.add.ensures in
-    record { entry = c.requires.e_in_bounds; places = λ k x. omega (arith, (first.exact k).0 x) }
 
 pub returns : goal.returns
 returns c =

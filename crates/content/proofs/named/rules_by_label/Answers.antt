@@ -2,23 +2,13 @@
 use Prim.Native.Nat.{suc, ◌+◌}
 use native.Mathlib.Omega.{arith}
 use mathlib.Core.Path.{◌≡◌}
-use lib.ListN.{length}
-use Rattle.rules.specs.Rules.{listed}
 use Rattle.content.proofs.Naming.{named_none, named_more}
 use Rattle.content.proofs.named.rules_by_label.Goals as goal
 
 pub loop-k-init : goal.loop-k-init
 loop-k-init c = named_none
 
-pub bounds-named-label_at : goal.bounds-named-label_at
-bounds-named-label_at c = omega (arith, c.requires c.loop-k.k (omega arith), c.label_at.ensures)
-
 pub loop-k-preserved : goal.loop-k-preserved
 loop-k-preserved c =
     let next : c.loop-k.k + 1 ≡ suc c.loop-k.k = omega arith in
     rw (c.label_at.ensures, c.parent_at.ensures, next) (named_more (c.requires c.loop-k.k (omega arith)) c.loop-k.invariant)
-
-pub returns : goal.returns
-returns c =
-    let all : c.loop-k.k ≡ length (listed c.args.list.now) = omega arith in
-    record { each = rw (← all) c.loop-k.invariant.each }

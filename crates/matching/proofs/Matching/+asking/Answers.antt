@@ -1,11 +1,10 @@
 -- `pass`, `pass_either`, `go_on` and `go_on_alone`: an arm for each kind, whose operands are asked in their turn; both entries of an either
 -- are asked of the same places, one that is named twice once; a star goes by rounds, and where no set is kept for it, with one of its own.
-use Prim.Native.Nat.{ℕ, ◌+◌, ◌<◌}
+use Prim.Native.Nat.{ℕ, ◌+◌}
 use native.Mathlib.Omega.{arith}
 use mathlib.Core.Path.{◌≡◌, sym, ap, subst}
 use mathlib.Core.Logic.{inr}
 use mathlib.Core.List.{List}
-use borrow.Author.Rules.{rules}
 use lib.Dec.{T}
 use lib.ListN.{length}
 use Rattle.tree.proofs.Tests.{test_failed, test_passed}

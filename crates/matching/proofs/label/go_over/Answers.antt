@@ -12,10 +12,10 @@ use mir.Val.{Fits}
 use borrow.Author.Tests.{tests}
 use Rattle.sets.specs.Bits.{digit}
 use Rattle.sets.proofs.Keeping.{kept_where}
-use Rattle.sets.proofs.Words.{in_word, none_made, one_made, front_made, none_above}
+use Rattle.sets.proofs.Words.{in_word, one_made, front_made, none_above}
 use Rattle.matching.specs.Spans.{LabelAt}
 use Rattle.matching.proofs.Spanning.{spans_one}
-use Rattle.matching.proofs.Moving.{none_over, word_moved, word_over}
+use Rattle.matching.proofs.Moving.{word_moved, word_over}
 use Rattle.matching.proofs.label.go_over.Goals as goal
 use Rattle.matching.proofs.label.go_over.Invariants.{Labelled}
 use Rattle.matching.proofs.label.go_over.Goals.{After-keep-kept}
@@ -30,9 +30,6 @@ kept c k l =
     let at : ℕ → Type 0 = λ j. LabelAt c.args.word.now c.args.label (64 * w + j) in
     Iff.trans (kept_where at c.keep-kept.ensures (λ j l p. search (rules, tests)) (λ j l p. search (rules, tests)) k l)
     (Iff.and (rw (c.loop-w.invariant.0.rest w (le_refl w)) (in_word c.args.set.now w k l)) Iff.rfl)
-
-pub loop-w-init : goal.loop-w-init
-loop-w-init c = (none_made _, none_over)
 
 pub loop-w-preserved : goal.loop-w-preserved
 loop-w-preserved c =

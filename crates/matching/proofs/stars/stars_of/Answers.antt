@@ -1,7 +1,7 @@
 -- `stars_of`: an entry has the stars of its operands, and a star one more, but at most 32.
 use Prim.Native.Nat.{ℕ}
 use native.Mathlib.Omega.{arith}
-use mathlib.Core.Path.{◌≡◌, refl}
+use mathlib.Core.Path.{◌≡◌}
 use Rattle.query.specs.Table.{entries}
 use Rattle.rules.specs.Table.{expression_at}
 use Rattle.matching.specs.Settled.{stars}

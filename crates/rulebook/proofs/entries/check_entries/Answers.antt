@@ -1,18 +1,15 @@
 -- `rulebook::entries::check_entries`: the walk comes to the lowest entry that is not in order or too high, or to the end.
 use Prim.Native.Nat.{◌+◌}
-use mathlib.Core.Path.{◌≡◌, refl}
+use mathlib.Core.Path.{◌≡◌}
 use lib.ListN.{length-set}
 use native.Mathlib.Omega.{arith}
 use Rattle.query.specs.Table.{entries}
 use Rattle.rules.specs.Table.{expression_at, height}
 use Rattle.rules.proofs.Standing.{in_order}
 use Rattle.rulebook.proofs.Heights.{own_height}
-use Rattle.rulebook.proofs.Walk.{all_fit, misfit, walk_starts, walk_on}
+use Rattle.rulebook.proofs.Walk.{all_fit, misfit, walk_on}
 use Rattle.rulebook.proofs.entries.check_entries.Goals as goal
 use Rattle.rulebook.proofs.entries.check_entries.Goals.{After-height_below-below}
-
-pub loop-i-init : goal.loop-i-init
-loop-i-init c = record { counted = c.count-n.ensures; room = refl; walked = walk_starts _ _ }
 
 pub returns-in_default : goal.returns-in_default
 returns-in_default c =

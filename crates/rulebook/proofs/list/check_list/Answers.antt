@@ -1,7 +1,6 @@
 -- `rulebook::list::check_list` looks at the records in turn: those that were passed fit.
 use native.Mathlib.Omega.{arith}
-use borrow.Author.Count.{below_more}
-use Rattle.tree.proofs.Tests.{test_failed, test_passed}
+use Rattle.tree.proofs.Tests.{test_failed}
 use Rattle.rulebook.proofs.Walk.{all_fit, misfit}
 use Rattle.rulebook.proofs.list.check_list.Goals as goal
 
@@ -9,11 +8,6 @@ pub returns-then-not-record_fits : goal.returns-then-not-record_fits
 returns-then-not-record_fits c =
     misfit c.loop-k.invariant (omega arith)
     (test_failed c.record_fits.result c.record_fits.ensures c.if-not-record_fits.true) c.refuse.ensures
-
-pub loop-k-preserved : goal.loop-k-preserved
-loop-k-preserved c =
-    let fits = test_passed c.record_fits.result c.record_fits.ensures c.if-not-record_fits.false in
-    below_more _ _ c.loop-k.invariant fits
 
 pub returns : goal.returns
 returns c = all_fit c.loop-k.invariant (omega arith) c.count-n.ensures
