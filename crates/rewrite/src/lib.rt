@@ -31,6 +31,7 @@ pub fn write_rewritten(annotation: &[u8], filters: &[u8], query: &[u8], room: &m
 }
 
 // The entry of the rewritten table that tells who is visible.
+#[tactic(auto, using(query::proofs::Tables::entries_length, checks::proofs::Records::records_length))]
 pub fn visible_entry(annotation: &[u8], filters: &[u8]) -> usize
     requires { Annotated annotation.now filters.now }
     ensures { result ≡ visible_entry annotation.now filters.now }
