@@ -11,7 +11,7 @@ use Rattle.rules.specs.declared.Rule.TheVariants.{Empty, One, Then, Either, Star
 use Rattle.rules.specs.Language.{Expression, empty, one, then, either, star}
 use Rattle.rules.specs.Table.{expression_at}
 use Rattle.rules.specs.Read.{Is, meaning}
-use Rattle.rules.proofs.Standing.{stands}
+use Rattle.rules.proofs.Standing.{is_meant}
 use Rattle.matching.specs.Settled.{stars, CountedTo}
 
 -- at most 32 are counted of any expression
@@ -56,4 +56,4 @@ module _ (es : Entries) (counts : List ℕ) (i : ℕ) (counted : CountedTo es co
   meant (Star a) is = omega (arith, counted a is.right)
 
   pub summed_up : {rule : Rule} {n : ℕ} → i < length es → Is es i rule → n ≡ summed counts rule → n ≡ stars (expression_at es i)
-  summed_up {rule} within is found = found ∙ meant rule is ∙ sym (ap stars (stands es i within is))
+  summed_up {rule} within is found = found ∙ meant rule is ∙ sym (ap stars (is_meant es i within is))

@@ -85,7 +85,7 @@ fn item(text: &[u8], depth: usize, from: Read, table: &mut [u8]) -> Parsed
 {
     let mut read = atom(text, depth, from, table)?;
     while byte_at(text, read.at) == b'*' {
-        put(table, read.count, Kind::Star, 0, read.count - 1, 0);
+        put(table, read.count, Kind::Star as u8, 0, read.count - 1, 0);
         read.at += 1;
         read.count += 1;
     }
@@ -101,14 +101,14 @@ fn atom(text: &[u8], depth: usize, from: Read, table: &mut [u8]) -> Parsed
     match byte_at(text, from.at) {
         b'[' => {
             let inner = bracketed(text, depth, from, table, Bracket::Square);
-            behind(table, inner, Kind::Stay)
+            behind(table, inner, Kind::Stay as u8)
         }
         b'(' => bracketed(text, depth, from, table, Bracket::Round),
         byte => {
             let Some(kind) = axis(byte) else {
                 return Err(Stopped::Broken(from.at));
             };
-            leaf(table, from.count, kind, 0, from.at + 1)
+            leaf(table, from.count, u8::from(kind), 0, from.at + 1)
         }
     }
 }
@@ -143,7 +143,7 @@ fn term(text: &[u8], depth: usize, from: Read, table: &mut [u8]) -> Parsed
     };
     let mut answer = plain(text, depth, next, table);
     for _ in from.at..next.at {
-        answer = behind(table, answer, Kind::Not);
+        answer = behind(table, answer, Kind::Not as u8);
     }
     answer
 }
@@ -155,13 +155,13 @@ fn plain(text: &[u8], depth: usize, from: Read, table: &mut [u8]) -> Parsed
     ensures { Follows terms depth text.now from.at table.old from.count result table.new }
 {
     match byte_at(text, from.at) {
-        b't' => leaf(table, from.count, Kind::Always, 0, from.at + 1),
-        b'f' => leaf(table, from.count, Kind::Never, 0, from.at + 1),
+        b't' => leaf(table, from.count, Kind::Always as u8, 0, from.at + 1),
+        b'f' => leaf(table, from.count, Kind::Never as u8, 0, from.at + 1),
         b'#' => labelled(text, from.at + 1, table, from.count),
         b'{' => bracketed(text, depth, from, table, Bracket::Curly),
         _ => {
             let inner = path(text, from.at, depth, table, from.count);
-            behind(table, inner, Kind::Leads)
+            behind(table, inner, Kind::Leads as u8)
         }
     }
 }

@@ -10,7 +10,7 @@ use Rattle.rules.specs.declared.Rule.{Rule}
 use Rattle.rules.specs.declared.Rule.TheVariants.{Empty, One, Then, Either, Star}
 use Rattle.rules.specs.Table.{expression_at, height}
 use Rattle.rules.specs.Read.{FieldsRight, Is, meaning}
-use Rattle.rules.proofs.Standing.{stands}
+use Rattle.rules.proofs.Standing.{is_meant}
 use Rattle.rulebook.specs.Rulebook.{HeightsKnown}
 
 -- the greatest height of its operands
@@ -42,4 +42,4 @@ grown (Star a) heights l found es known = omega (arith, found, known a l)
 -- and its own is that of what it stands for
 pub own_height : {es : Entries} {i n : ℕ} {rule : Rule} → i < length es → Is es i rule → n ≡ height (meaning es rule)
     → n ≡ height (expression_at es i)
-own_height {es} {i} within is found = found ∙ sym (ap height (stands es i within is))
+own_height {es} {i} within is found = found ∙ sym (ap height (is_meant es i within is))

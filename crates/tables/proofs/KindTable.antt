@@ -40,14 +40,14 @@ unfoldable pub fields_of : Option Row → Written
 fields_of row = (field (sort_of row), field (left_of row), field (right_of row), label_of row)
 
 -- say the row
-fields_right : (row : Option Row) → Listed row (fields_of row)
+pub taken_apart : (row : Option Row) → Listed row (fields_of row)
 unfolding fields_of
-fields_right row =
+taken_apart row =
     record { sort = field_lem (sort_of row); left = field_lem (left_of row); right = field_lem (right_of row); label = refl }
 
 -- the table of the fields of each kind's row, which is what the code's constant table computes to, says what the list says
 pub table_right : (kind : ℕ) (d : Written) → kind < 23 → Listed (row_of kind) (get_or (map (λ k. fields_of (row_of k)) (range_with_len 0 23)) kind d)
-table_right kind d l = rw (get_or-map-range_with_len (λ k. fields_of (row_of k)) 0 23 kind kind d l (omega arith)) (fields_right (row_of kind))
+table_right kind d l = rw (get_or-map-range_with_len (λ k. fields_of (row_of k)) 0 23 kind kind d l (omega arith)) (taken_apart (row_of kind))
 
 -- every row has a number below n
 unfoldable numbers_below : ℕ → List Row → Bool

@@ -80,5 +80,5 @@ pub fn labelled(text: &[u8], at: usize, table: &mut [u8], count: usize) -> Parse
     let Some(Label { value, next }) = read_label(text, at) else {
         return Err(Stopped::Broken(at));
     };
-    leaf(table, count, Kind::Labelled, value, next)
+    leaf(table, count, Kind::Labelled as u8, value, next)
 }

@@ -37,7 +37,7 @@ atom-returns-in_default-axis t c =
     no_atom c.requires.within (λ e. omega arith) (λ e. omega arith) (rw c.byte_at.ensures at c.in_default-axis.ensures)
 
 pub atom-returns-in-Some : goal.atom-returns-in-Some
-atom-returns-in-Some t c = axis_follows (rw c.byte_at.ensures at c.in-Some.ensures) c.leaf.ensures
+atom-returns-in-Some t c = axis_follows (rw c.byte_at.ensures at c.in-Some.ensures) (rw c.from.ensures at c.leaf.ensures)
 
 -- `bracketed`: what stands in the bracket is a path or a filter, and either is closed in the same way.
 pub bracketed-returns-then-depth-ge-OPEN_BRACKETS : goal.bracketed-returns-then-depth-ge-OPEN_BRACKETS

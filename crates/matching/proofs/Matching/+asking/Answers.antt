@@ -12,7 +12,7 @@ use Rattle.query.specs.Table.{entries}
 use Rattle.sets.specs.Sets.{In, Holds, Inside}
 use Rattle.rules.specs.Language.{Expression, Word}
 use Rattle.rules.specs.Table.{expression_at}
-use Rattle.rules.proofs.Standing.{stands}
+use Rattle.rules.proofs.Standing.{is_meant}
 use Rattle.matching.specs.Settled.{Kept}
 use Rattle.matching.proofs.Settling.{pass_none, pass_empty, pass_one, pass_alone, pass_then, pass_either, pass_same, one_cleared, from_cleared}
 use Rattle.matching.proofs.Keeping.{Divided, divided, undivided}
@@ -75,34 +75,34 @@ pass-returns-then-is_front_empty t c = pass_none (c.is_front_empty.ensures.0 (su
 
 -- empty
 pub pass-returns-in-Empty : goal.pass-returns-in-Empty
-pass-returns-in-Empty t c = rw (stands _ _ c.requires.entry c.in-Empty.ensures) (pass_empty c.requires.places)
+pass-returns-in-Empty t c = rw (is_meant _ _ c.requires.entry c.in-Empty.ensures) (pass_empty c.requires.places)
 
 -- one label
 pub pass-returns-in-One : goal.pass-returns-in-One
-pass-returns-in-One t c = rw (stands _ _ c.requires.entry c.in-One.ensures) (pass_one c.go_over.ensures)
+pass-returns-in-One t c = rw (is_meant _ _ c.requires.entry c.in-One.ensures) (pass_one c.go_over.ensures)
 
 -- one after another
 pub pass-returns-in-Then : goal.pass-returns-in-Then
 pass-returns-in-Then t c =
     let parts : Divided (expression_at (entries c.args.self.now.rules.now) c.in-Then.left) c.args.kept.now c.share-n.result c.pass.new.kept c.pass-in-Then.new.kept =
     divided _ _ _ c.share-n.ensures c.pass.auto.kept c.pass-in-Then.auto.kept in
-    rw (stands _ _ c.requires.entry c.in-Then.ensures, parts.back)
+    rw (is_meant _ _ c.requires.entry c.in-Then.ensures, parts.back)
     (pass_then _ _ _ _ parts.front parts.all (rw parts.for_first at c.pass.ensures) (rw parts.for_second at c.pass-in-Then.ensures))
 
 -- either
 pub pass-returns-in-Either : goal.pass-returns-in-Either
-pass-returns-in-Either t c = rw (stands _ _ c.requires.entry c.in-Either.ensures) c.pass_either.ensures
+pass-returns-in-Either t c = rw (is_meant _ _ c.requires.entry c.in-Either.ensures) c.pass_either.ensures
 
 -- zero or more
 pub pass-returns-in-Some : goal.pass-returns-in-Some
 pass-returns-in-Some t c =
     let whole = (c.in-Some.ensures).cases.0 in
-    let star = stands _ _ c.requires.entry c.in-Star.ensures in
+    let star = is_meant _ _ c.requires.entry c.in-Star.ensures in
     rw (star, whole) c.go_on.ensures
 
 pub pass-returns-in-None : goal.pass-returns-in-None
 pass-returns-in-None t c =
-    rw (stands _ _ c.requires.entry c.in-Star.ensures) (pass_alone _ (c.in-None.ensures).cases c.go_on_alone.ensures)
+    rw (is_meant _ _ c.requires.entry c.in-Star.ensures) (pass_alone _ (c.in-None.ensures).cases c.go_on_alone.ensures)
 
 -- ---- either of two entries
 

@@ -10,7 +10,7 @@ use Rattle.rules.specs.Table.{expression_at}
 use Rattle.matching.specs.Settled.{Cleared}
 use Rattle.matching.proofs.Settling.{from_cleared}
 use Rattle.matching.proofs.Keeping.{first_back}
-use Rattle.rules.proofs.Standing.{stands}
+use Rattle.rules.proofs.Standing.{is_meant}
 use Rattle.matching.proofs.Passing.{once_then, once_either, once_same}
 use Rattle.matching.proofs.Matching.+asking_once.Goals as goal
 
@@ -31,11 +31,11 @@ either_once-returns-else-left-right t c =
 -- one after another
 pub pass_once-returns-in-Then : goal.pass_once-returns-in-Then
 pass_once-returns-in-Then t c =
-    rw (stands _ _ c.requires.entry c.in-Then.ensures) (once_then c.pass_once.ensures c.pass_once-in-Then.ensures)
+    rw (is_meant _ _ c.requires.entry c.in-Then.ensures) (once_then c.pass_once.ensures c.pass_once-in-Then.ensures)
 
 -- either
 pub pass_once-returns-in-Either : goal.pass_once-returns-in-Either
-pass_once-returns-in-Either t c = rw (stands _ _ c.requires.entry c.in-Either.ensures) c.either_once.ensures
+pass_once-returns-in-Either t c = rw (is_meant _ _ c.requires.entry c.in-Either.ensures) c.either_once.ensures
 
 -- all others: so many sets are cleared for them, and those in front are the ones that are lent again
 pub pass_once-returns-in_default : goal.pass_once-returns-in_default
