@@ -37,7 +37,7 @@ fn reasons(style: impl Fn(&str) -> String) -> Vec<(String, u8)> {
 fn the_reasons_are_those_of_the_proved_code_and_of_the_header() {
     let numbers: Vec<u8> = reasons(shouted).into_iter().map(|(_, number)| number).collect();
     assert_eq!(numbers, (1..=21).collect::<Vec<u8>>());
-    assert_eq!(reasons(str::to_string), listed(PROVED, "Reason::", " => "));
+    assert_eq!(reasons(str::to_string), listed(PROVED, "", " = "));
     assert_eq!(reasons(shouted), listed(HEADER, "KEPOLAS_", " = "));
 }
 
