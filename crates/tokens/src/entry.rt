@@ -33,7 +33,8 @@ pub fn joined(table: &mut [u8], from: usize, left: usize, right: usize, chain: C
     ensures { Joins chain table.old from left right result table.new }
 {
     if from < left {
-        put(table, right, u8::from(kind_of(chain)), 0, left - 1, right - 1);
+        let kind = u8::from(kind_of(chain));
+        put(table, right, kind, 0, left - 1, right - 1);
         return right + 1;
     }
     right

@@ -12,7 +12,7 @@ room c = c.requires.1 c.if-from-left.true
 
 pub returns-then-from-left : goal.returns-then-from-left
 returns-then-from-left c =
-    both c.if-from-left.true (rw (c.from.ensures, c.kind_of.ensures) at c.put.ensures)
+    both c.if-from-left.true (rw (c.from-kind.ensures, c.kind_of.ensures) at c.put.ensures)
 
 pub returns : goal.returns
 returns c = alone (search rules)
