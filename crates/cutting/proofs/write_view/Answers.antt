@@ -12,11 +12,6 @@ use Rattle.cutting.proofs.write_view.Goals as goal
 pub loop-i-init : goal.loop-i-init
 loop-i-init c = record { scanned = nothing_scanned; rest = record { same = refl; long = refl; behind = refl } }
 
-pub pass-requires : goal.pass-requires
-pass-requires c =
-    let (right, top, fits) = c.requires in
-    record { roll = (right, top, omega (arith, c.loop-i.invariant.rest.long)); i_in_bounds = omega arith; scanned = c.loop-i.invariant.scanned }
-
 pub loop-i-preserved : goal.loop-i-preserved
 loop-i-preserved c =
     let next = c.pass.ensures.scanned_2 in

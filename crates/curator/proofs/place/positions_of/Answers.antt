@@ -1,6 +1,6 @@
 -- `positions_of`: after i records, those of them that are members stand at the positions counted so far.
 use native.Mathlib.Omega.{arith}
-use Rattle.curator.proofs.Positions.{none_turned, turned_most, hidden_turned, others_turned, member_turned, all_turned}
+use Rattle.curator.proofs.Positions.{none_turned, turned_most, hidden_turned, others_turned, member_turned}
 use Rattle.curator.proofs.place.positions_of.Goals as goal
 use Rattle.curator.proofs.place.positions_of.Goals.{then-has, then-has-2, else-has-2, else-has}
 
@@ -33,8 +33,3 @@ loop-i-preserved c =
           ]
       | else-has w ↦ rw (w.position-is, w.positions-is) (hidden_turned turned (λ m. rw w.if-has.false at (c.has.ensures.1 m)))
     ]
-
-pub returns : goal.returns
-returns c =
-    let turned = c.loop-i.invariant in
-    all_turned turned (λ j y s. let l = c.requires.1 j s in omega arith)

@@ -24,11 +24,6 @@ bounds c =
 pub has-requires : goal.has-requires
 has-requires c = omega (arith, bounds (goal.at.has-requires c).Start)
 
-pub overflow_cast-label_at : goal.overflow_cast-label_at
-overflow_cast-label_at c =
-    let label = (c.requires.roll.0.node c.args.i c.requires.i_in_bounds).label in
-    omega (arith, c.label_at.ensures)
-
 pub put-requires : goal.put-requires
 put-requires c = omega (arith, bounds (goal.at.put-requires c).Start)
 

@@ -2,8 +2,5 @@
 use Rattle.lines.proofs.Listing.{refused_begun}
 use Rattle.lines.proofs.line.Line.put_reply.Goals as goal
 
-pub returns-in-Ok : goal.returns-in-Ok
-returns-in-Ok c = rw c.in-Ok.is c.put_answer.ensures
-
 pub returns-in-Err : goal.returns-in-Err
 returns-in-Err c = refused_begun c.in-Err.is c.number_of.ensures c.put_refusal.ensures
