@@ -1,5 +1,5 @@
 // "Annotation record, 6 bytes: parent label, child label, number of a filter entry (two bytes), two zero bytes."
-// Its fields stand where those of a query entry do, and are read there.
+// Its fields stand where those of a query entry do, and are read there; here they have the names that the document gives them.
 ghost use Rattle.std.specs.Prelude.{◌≡◌, length};
 ghost use Rattle.view.specs.Annotation.{records, record_at};
 ghost use Rattle.checks.specs.Fields.{Fields};

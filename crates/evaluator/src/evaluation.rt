@@ -21,7 +21,7 @@ use sets::{below, common, difference, empty, is_empty, union};
 use steps::{closure, labelled, only, step};
 
 // What an evaluation rests on: a roll with its links, a table of paths and filters, and of one filter, of number `known`, the nodes where
-// it holds, `held`.
+// it holds, `held`. What is known of them is asked at each call (`Asks`): a ghost field has to be a proposition, and this is more.
 #[derive(Clone, Copy)]
 pub(crate) struct Evaluation<'a> {
     pub(crate) roll: &'a [u8],

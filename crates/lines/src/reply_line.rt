@@ -11,7 +11,7 @@ use reply::{Reply, number_of};
 // No line is longer.
 pub const LONGEST: usize = 20503;
 
-// Whether position k is in the bitmap.
+// Whether position k is in the bitmap: what `sets::has` is for words.
 fn is_in(map: &[u8; 512], k: usize) -> bool
     requires { k < 4096 }
     ensures { result ≡ eqb (bit map.now k) 1 }

@@ -9,7 +9,7 @@ ghost use Rattle.links.specs.Links.{Siblings};
 
 use roll::{count, previous_of};
 
-// Where there is no sibling.
+// Where there is no sibling. It is a number, since options in the lent array would take twice the memory.
 pub const NONE: u16 = 65535;
 
 // Fills in the links, none of which is there at first.

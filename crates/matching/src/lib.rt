@@ -131,7 +131,7 @@ impl<'a> Matching<'a> {
     }
 
     // The same for an entry that stands in no star. It is asked once, so that nothing has to be kept of it, and the sets serve one of its
-    // stars after the other, each with those inside it.
+    // stars after the other, each with those inside it. They are not divided between two operands, so that it is no case of `pass`.
     #[cycle(asking_once)]
     fn pass_once(&self, e: usize, kept: &mut [[u64; 64]], set: &mut [u64; 64])
         requires { Asked self.now.rules.now e self.now.word.now set.old }

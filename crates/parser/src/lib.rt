@@ -65,7 +65,7 @@ fn chained(text: &[u8], depth: usize, from: Read, table: &mut [u8], of: Sort) ->
     }
 }
 
-// One link of the inner chain: an item of a path, a term of a filter.
+// One link of the inner chain: an item of a path, a term of a filter. It is chosen by the sort, which chooses the bytes of the chain too.
 #[cycle(read)]
 fn link(text: &[u8], depth: usize, from: Read, table: &mut [u8], sort: Sort) -> Parsed
     requires { RoomAhead text.now from.at table.old from.count }

@@ -72,7 +72,7 @@ pub fn two_bytes(low: u8, high: u8) -> usize
     usize::from(u16::from_le_bytes([low, high]))
 }
 
-// Writes a two-byte number at a place.
+// Writes a two-byte number at a place. Of a greater one these are the lowest two bytes, so that no call has to show that it fits.
 pub fn put_two_bytes(out: &mut [u8], at: usize, number: usize)
     requires { at + 2 ≤ length out.old }
     ensures { out.new ≡ sets out.old at (two_bytes number) }

@@ -12,7 +12,7 @@ pub fn count(roll: &[u8]) -> usize
     roll.len() / 4
 }
 
-// The label of record i, 0 where there is no such record.
+// The label of record i; where there is no such record it is 0, as the definition has it.
 pub fn label_at(roll: &[u8], i: usize) -> usize
     ensures { result ≡ label_at (nodes roll.now) i }
 {
@@ -22,7 +22,7 @@ pub fn label_at(roll: &[u8], i: usize) -> usize
     usize::from(roll[4 * i])
 }
 
-// The parent field of record i, 0 where there is no such record.
+// The parent field of record i; where there is no such record it is 0, as the definition has it.
 pub fn parent_at(roll: &[u8], i: usize) -> usize
     ensures { result ≡ parent_at (nodes roll.now) i }
 {

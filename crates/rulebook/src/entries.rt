@@ -39,7 +39,8 @@ fn height_below(heights: &[u16; RULE_ENTRIES], rule: Rule, i: usize) -> u16
     }
 }
 
-// The entries alone: the lowest that is not in order or too high. The heights of the entries before are kept.
+// The entries alone: the lowest that is not in order or too high. The heights of the entries before are kept. The walk is as that of
+// `tables`, but for the test, the heights and the reasons: a function for both would be handed all of these.
 pub(crate) fn check_entries(rules: &[u8]) -> Reply
     requires { length (entries rules.now) ≤ 256 }
     ensures { EntriesChecked rules.now (said result) }

@@ -33,7 +33,7 @@ pub fn count(table: &[u8]) -> usize
     table.len() / 6
 }
 
-// Entry i; where there is none, all its fields are 0.
+// Entry i; where there is none, all its fields are 0, as the definition has it.
 pub fn entry_at(table: &[u8], i: usize) -> Entry
     ensures { Fields (entry_at (entries table.now) i) result }
 {
