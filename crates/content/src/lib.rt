@@ -43,7 +43,8 @@ impl Ruled<'_> {
         requires named { NamesEntries (entries self.now.rules.now) self.now.named.now }
         requires counted { Counted (entries self.now.rules.now) self.now.counts.now }
         requires i_in_bounds { i < length (nodes self.now.roll.now) }
-        ensures { let t = nodes self.now.roll.now in T result ↔ Obeys (entries self.now.rules.now) (rule_of self.now.named.now (label_at t i)) (word_of t i) }
+        ensures { let t = nodes self.now.roll.now in
+            T result ↔ Obeys (entries self.now.rules.now) (rule_of self.now.named.now (label_at t i)) (word_of t i) }
     {
         let Some(e) = self.named[label_at(self.roll, i)] else {
             return true;

@@ -1,4 +1,5 @@
-// How a text is read, as rules, and that it is read as the grammar says. The code is the names of what the rules and the readers share.
+// How a text is read, as rules, and that it is read as the grammar says. The code is the names of what the rules and the readers share,
+// and the bytes of these.
 
 #![tactic(auto)]
 

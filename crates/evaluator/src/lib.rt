@@ -1,5 +1,5 @@
 // What a path reaches from a set of nodes, and where a filter holds in one. Of one filter, of number `known`, the nodes where it holds
-// may be known beforehand: `held`.
+// may be known beforehand: `held`; where none is, the number is behind the last entry.
 
 #![tactic(auto)]
 

@@ -1,5 +1,6 @@
 // The calls for C and Rust, on numbers and slices of bytes. A call returns the refusal's number, or 0 where it gives a count; the count, or
-// the refusal's place, it writes to a number that the caller lends. The nine calls are written out, since each is an export of its own.
+// the refusal's place, it writes to a number that the caller lends. The nine calls are written out, since
+// `kepolas_c` exports each under its name.
 
 #![tactic(auto)]
 

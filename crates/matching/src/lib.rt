@@ -91,7 +91,8 @@ impl<'a> Matching<'a> {
     fn pass_either(&self, left: usize, right: usize, kept: &mut [[u64; 64]], set: &mut [u64; 64])
         requires asked { Asked self.now.rules.now left self.now.word.now set.old }
         requires right_in_bounds { right < length (entries self.now.rules.now) }
-        ensures { let es = entries self.now.rules.now in Passed (either (expression_at es left) (expression_at es right)) self.now.word.now kept.old set.old kept.new set.new }
+        ensures { let es = entries self.now.rules.now in
+            Passed (either (expression_at es left) (expression_at es right)) self.now.word.now kept.old set.old kept.new set.new }
     {
         let n = self.share(left, kept.len());
         let mut other = *set;
@@ -107,7 +108,8 @@ impl<'a> Matching<'a> {
     #[cycle(asking)]
     fn go_on(&self, e: usize, reached: &mut [u64; 64], kept: &mut [[u64; 64]], set: &mut [u64; 64])
         requires { Asked self.now.rules.now e self.now.word.now set.old }
-        ensures { Passed (star (expression_at (entries self.now.rules.now) e)) self.now.word.now (reached.old ∷ kept.old) set.old (reached.new ∷ kept.new) set.new }
+        ensures { Passed (star (expression_at (entries self.now.rules.now) e)) self.now.word.now
+            (reached.old ∷ kept.old) set.old (reached.new ∷ kept.new) set.new }
     {
         take_front(set, reached, self.used);
         add_front(reached, set, self.used);
@@ -159,7 +161,8 @@ impl<'a> Matching<'a> {
     fn either_once(&self, left: usize, right: usize, kept: &mut [[u64; 64]], set: &mut [u64; 64])
         requires asked { Asked self.now.rules.now left self.now.word.now set.old }
         requires right_in_bounds { right < length (entries self.now.rules.now) }
-        ensures { let es = entries self.now.rules.now in Image (Spans (either (expression_at es left) (expression_at es right)) self.now.word.now) set.old set.new }
+        ensures { let es = entries self.now.rules.now in
+            Image (Spans (either (expression_at es left) (expression_at es right)) self.now.word.now) set.old set.new }
     {
         let mut other = *set;
         self.pass_once(left, kept, set);

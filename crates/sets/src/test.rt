@@ -28,7 +28,7 @@ pub fn count(a: [u64; 64]) -> usize
     a.iter().map(|word| word.count_ones() as usize).sum()
 }
 
-// Whether k is in a set. It takes any number of words, since sets may stand behind each other in one list.
+// Whether k is in a set. It takes any number of words.
 pub fn has(words: &[u64], k: usize) -> bool
     requires { k < 64 * length words.now }
     ensures { T result ↔ In words.now k }

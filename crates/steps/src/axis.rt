@@ -11,8 +11,8 @@ pub enum Axis {
     Previous,
 }
 
-// Which axes a step may take.
-#[derive(Clone, Copy)]
+// Which axes a step may take: by default none.
+#[derive(Clone, Copy, Default)]
 pub struct Axes {
     pub child: bool,
     pub parent: bool,
@@ -32,14 +32,6 @@ pub fn turned(axis: Axis) -> Axis
     }
 }
 
-// No axis.
-const NONE: Axes = Axes {
-    child: false,
-    parent: false,
-    next: false,
-    previous: false,
-};
-
 // One axis alone.
 pub fn only(axis: Axis) -> Axes
     ensures { (t : Tree) (i j : ℕ) → AlongAny t result i j ↔ Along t axis i j }
@@ -47,16 +39,19 @@ pub fn only(axis: Axis) -> Axes
     match axis {
         Axis::Child => Axes {
             child: true,
-            ..NONE
+            ..Axes::default()
         },
         Axis::Parent => Axes {
             parent: true,
-            ..NONE
+            ..Axes::default()
         },
-        Axis::Next => Axes { next: true, ..NONE },
+        Axis::Next => Axes {
+            next: true,
+            ..Axes::default()
+        },
         Axis::Previous => Axes {
             previous: true,
-            ..NONE
+            ..Axes::default()
         },
     }
 }

@@ -59,10 +59,8 @@ impl Walk<'_> {
         requires { Ready self.now }
         ensures { Added (λ j. Child (nodes self.now.roll.now) j i) out.old out.new }
     {
-        if 0 < i {
-            if i < count(self.roll) {
-                add(out, parent_at(self.roll, i));
-            }
+        if 0 < i && i < count(self.roll) {
+            add(out, parent_at(self.roll, i));
         }
     }
 
