@@ -1,5 +1,5 @@
 -- "A reply carries either a count or a refusal's number with its place."
--- What each case of the reply's enum stands for: this list, and no other, says which number a reason has.
+-- What each case of the enum of reasons stands for: this list says it, and the numbers in the code are proved to be these.
 use Rattle.std.specs.Prelude.{ℕ, Result, Ok, Err}
 use Rattle.reply.specs.declared.Reason.{Reason}
 use Rattle.reply.specs.declared.Reason.TheVariants.{ShortRoom, RollLength, NodeLabel, SecondByte, ParentField, AnnotationLength, FilterLength, EntryMalformed, EntryHeight, AnnotationRecord, PairOrder, QueryTable, TextLength, NotInGrammar, TooManyOpen, TableTooLarge, FileUnreadable, TextTooLong, TwoStars, RulesMalformed, ChildrenForbidden}

@@ -10,10 +10,10 @@ pub record Taken (word k rest : ℕ) : Type 0 where
   pub others : (j : ℕ) → (digit rest j ≡ 1) ↔ ((digit word j ≡ 1) × (j ≢ k))
   pub less : rest < word
 
--- the lowest digit that is 1 and the word without it, or none in a word that is 0
+-- the lowest digit that is 1 and the word without it, or none in a word that is 0, which it stays
 abbrev pub Lowest : ℕ → Option ℕ → ℕ → Type 0
 Lowest word (Some k) rest = Taken word k rest
-Lowest word None rest = word ≡ 0
+Lowest word None rest = (word ≡ 0) × (rest ≡ 0)
 
 -- `kept` has those digits of the word at whose places a test came out true; `test k b` says that at k it may come out as b
 pub record Kept (test : ℕ → Bool → Type 0) (word kept : ℕ) : Type 0 where

@@ -21,7 +21,3 @@ pub record Leads (links : List ℕ) (i j : ℕ) : Type 0 where
 -- R leads to j from a digit of the word
 abbrev pub LedTo : (ℕ → ℕ → Type 0) → ℕ → ℕ → Type 0
 LedTo R word j = (k : ℕ) × (k < 64) × (digit word k ≡ 1) × R k j
-
--- `kept` has the digits of the word that have the property
-abbrev pub Kept : (ℕ → Type 0) → ℕ → ℕ → Type 0
-Kept P word kept = (k : ℕ) → k < 64 → (digit kept k ≡ 1) ↔ ((digit word k ≡ 1) × P k)

@@ -39,7 +39,7 @@ field_lem (of filter) = refl
 unfoldable pub fields_of : Option Row → Written
 fields_of row = (field (sort_of row), field (left_of row), field (right_of row), label_of row)
 
--- say the row
+-- say the row: taken apart, they are its sort, those of its operands, and whether it uses its label
 pub taken_apart : (row : Option Row) → Listed row (fields_of row)
 unfolding fields_of
 taken_apart row =

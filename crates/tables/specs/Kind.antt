@@ -1,4 +1,4 @@
--- The code's enum of the kinds: this list, and no other, says which number each case has.
+-- The code's enum of the kinds: this list says which number each case has, and the numbers in the code are proved to be these.
 use Rattle.std.specs.Prelude.{ℕ, ◌≡◌, Option, MatchOption}
 use Rattle.std.proofs.Math.Option.{none}
 use Rattle.query.specs.Kind.{row_of}

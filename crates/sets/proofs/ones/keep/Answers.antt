@@ -12,4 +12,4 @@ pub loop-k-preserved : goal.loop-k-preserved
 loop-k-preserved g c = one_left c.loop-k.invariant c.in-Some.ensures.steps (rw c.if-holds.false at c.holds.ensures)
 
 pub returns : goal.returns
-returns g c = all_kept c.loop-k.invariant c.in-None.ensures.steps
+returns g c = all_kept c.loop-k.invariant c.in-None.ensures.steps.0

@@ -9,4 +9,4 @@ pub loop-k-preserved : goal.loop-k-preserved
 loop-k-preserved c = one_more c.loop-k.invariant c.in-Some.ensures.steps c.add_along.ensures.exact
 
 pub returns : goal.returns
-returns c = record { exact = all_done c.loop-k.invariant c.in-None.ensures.steps }
+returns c = record { exact = all_done c.loop-k.invariant c.in-None.ensures.steps.0 }

@@ -46,4 +46,4 @@ pub returns-clause-gone_on : goal.returns-clause-gone_on
 returns-clause-gone_on c = c.loop-k.invariant.0
 
 pub returns-clause-by_index : goal.returns-clause-by_index
-returns-clause-by_index c k l p = none_of_zero k c.in_default.ensures.steps ((c.waiting.ensures.each k l).1 p)
+returns-clause-by_index c k l p = none_of_zero k c.in_default.ensures.steps.0 ((c.waiting.ensures.each k l).1 p)
