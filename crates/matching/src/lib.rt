@@ -41,7 +41,7 @@ fn words_of(word: &[u8]) -> usize
     if word.len() < 64 { 1 } else { 64 }
 }
 
-// Takes all members out of the sets.
+// Takes all members out of the sets. (`fill` asks that a copy of a set equals it, which is not known of arrays.)
 fn clear(kept: &mut [[u64; 64]])
     ensures { Cleared kept.new }
 {

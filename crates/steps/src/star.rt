@@ -19,7 +19,7 @@ fn waiting(set: &[u64; 64], sources: &[u64; 64], gone: &[u64; 64], w: usize) -> 
     set[w] & sources[w] & !gone[w]
 }
 
-// The first word with a node that waits.
+// The first word with a node that waits. (Of the closure of a `find` too little is known.)
 fn first_waiting(set: &[u64; 64], sources: &[u64; 64], gone: &[u64; 64]) -> Option<usize>
     ensures { WordWith (Waits set.now sources.now gone.now) result }
 {

@@ -8,7 +8,7 @@ use crate::index::row_of;
 use roll::{count, label_at, parent_at};
 use sets::{add, empty, has};
 
-// Whether node i is in a set of nodes.
+// Whether node i is in a set of nodes: of a set among others the check does not see that it has 64 words.
 fn is_in(set: &[u64; 64], i: usize) -> bool
     requires { i < 4096 }
     ensures { T result ↔ In set.now i }
