@@ -71,7 +71,7 @@ impl<'a> Matching<'a> {
         }
         match right_at(self.rules, e) {
             Rule::Empty => {}
-            Rule::One(label) => go_over(self.word, label, set, self.used),
+            Rule::One(label) => go_over(self.word, label, set),
             Rule::Then(left, right) => {
                 let n = self.share(left, kept.len());
                 self.pass(left, &mut kept[..n], set);

@@ -28,8 +28,10 @@ fn join(
     hold(table, right, least + 1, text)
 }
 
-// The text of entry e with no brackets around it.
+// The text of entry e with no brackets around it. It is put into `hold` where it is called, since a text is as deep in calls as it is in
+// brackets.
 #[cycle(hold_show)]
+#[inline(always)]
 fn show(table: &[u8], e: usize, text: &mut Writing) -> Result<(), TooLong>
     requires { HasEntry table.now e }
     ensures { Goes (entry_shown (entries table.now) e) text.old result text.new }

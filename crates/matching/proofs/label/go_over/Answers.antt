@@ -44,9 +44,9 @@ loop-w-preserved c =
 
 pub returns : goal.returns
 returns c =
-    let moved = front_made _ c.loop-w.invariant.0 (search rules) (omega (arith, c.requires.used))
+    let moved = front_made _ c.loop-w.invariant.0 (search rules) (omega (arith, c.words_of-w-end.ensures))
     (none_above _ c.requires.inside (λ q (p, next, (x, at)). omega (arith, at.within)))
-    (λ q (p, next, (x, at)). omega (arith, at.within, c.requires.used)) in
+    (λ q (p, next, (x, at)). omega (arith, at.within, c.words_of-w-end.ensures)) in
     record {
       exact = λ q. Iff.trans (moved.exact q) (
         λ (p, next, (x, at)). (p, x, (spans_one p q).1 (next, at)),
