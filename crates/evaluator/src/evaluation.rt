@@ -72,14 +72,27 @@ impl<'a> Evaluation<'a> {
     {
         match path_entry(self.table, e) {
             PathEntry::Star(path) => self.star(path, course, from),
-            PathEntry::Then(left, right) => match self.of_two(e, left, right, course, from) {
+            _ => match self.at_once(e, course, from) {
                 Some(reached) => reached,
                 None => self.by_rounds(e, course, from),
             },
-            _ => match way_of(self.table, e, course, DEEP) {
-                Some(axes) => closure(self.roll, self.links, axes, below(NODES), from),
-                None => self.by_rounds(e, course, from),
-            },
+        }
+    }
+
+    // What the path reaches so, where it is found without rounds. It is a call of its own, since its sets would take room beneath each star
+    // of a star, and beneath rounds too.
+    #[cycle(walk)]
+    #[inline(never)]
+    fn at_once(&self, e: usize, course: Course, from: [u64; 64]) -> Option<[u64; 64]>
+        requires { Asks self.now path e from }
+        ensures { IfSome result (Image (reach (nodes self.now.roll.now) (syntax.star (goes self.now e course))) from) }
+    {
+        match path_entry(self.table, e) {
+            PathEntry::Then(left, right) => self.of_two(e, left, right, course, from),
+            _ => {
+                let axes = way_of(self.table, e, course, DEEP)?;
+                Some(closure(self.roll, self.links, axes, below(NODES), from))
+            }
         }
     }
 

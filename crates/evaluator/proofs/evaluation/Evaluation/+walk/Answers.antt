@@ -140,11 +140,11 @@ pub star-returns-in-Star : goal.star-returns-in-Star
 star-returns-in-Star t c = rw c.in-Star.ensures.1 (walk_star_star (nodes c.args.self.now.roll.now) c.args.course _ c.star.ensures)
 
 -- along axes, from each node once
-pub star-returns-in-Some-way_of : goal.star-returns-in-Some-way_of
+pub at_once-returns-in_ok-axes-in_default : goal.at_once-returns-in_ok-axes-in_default
 unfolding reach
-star-returns-in-Some-way_of t c =
+at_once-returns-in_ok-axes-in_default t c =
     let g = c.requires.given.grounds.roll_right in
-    image_star (c.in-Some-way_of.ensures (nodes c.args.self.now.roll.now))
+    image_star (c.in_ok-axes-in_default.ensures (nodes c.args.self.now.roll.now))
     (star_of_steps (roll_in_order g) (roll_most g) c.below.ensures c.closure.ensures)
 
 -- # of_two: the two parts, in the order of the course

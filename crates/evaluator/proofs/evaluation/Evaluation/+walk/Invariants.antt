@@ -22,10 +22,13 @@ abbrev pub decreases-narrow : goal.decreases-narrow
 decreases-narrow l = 4 * l.e
 
 abbrev pub decreases-of_two : goal.decreases-of_two
-decreases-of_two l = 4 * l.e + 2
+decreases-of_two l = 4 * l.e + 1
 
 abbrev pub decreases-star : goal.decreases-star
 decreases-star l = 4 * l.e + 3
+
+abbrev pub decreases-at_once : goal.decreases-at_once
+decreases-at_once l = 4 * l.e + 2
 
 abbrev pub invariant-by_rounds-loop-course : goal.invariant-by_rounds-loop-course
 invariant-by_rounds-loop-course l =
