@@ -9,7 +9,7 @@
  * - Any bytes and any numbers may be handed in: a call checks its inputs itself.
  * - Calls 1 to 6, printing and the check of content return 0 and write a count to told, or return a refusal's number and write its place
  *   there. A refused call changes no byte of the room.
- * - Stack, measured and not proved: call 3 takes at most about 716 KB, call 6 about 245 KB, call 4 about 180 KB, the check of content about
+ * - Stack, measured and not proved: call 3 takes at most about 712 KB, call 6 about 242 KB, call 4 about 180 KB, the check of content about
  *   78 KB. */
 #ifndef KEPOLAS_H
 #define KEPOLAS_H

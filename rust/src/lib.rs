@@ -6,7 +6,7 @@
 //! has a number and a name, and a place. A refused call changes no byte of the room lent to it.
 //!
 //! The calls are proved; this crate around them is not. They keep no state and may run in several threads
-//! at once. [`answer_on_roll`] takes at most about 716 KB of stack, [`curators_answer`] about 245 KB and [`cut_view`] about
+//! at once. [`answer_on_roll`] takes at most about 712 KB of stack, [`curators_answer`] about 242 KB and [`cut_view`] about
 //! 180 KB, measured and not proved. The library is for x86-64 Linux: `bin/library` writes it.
 //!
 //! A curator's answer, from a query text, on the manual's worked roll:
