@@ -98,7 +98,7 @@ impl<'a> Evaluation<'a> {
 
     // The star of one path and then another, if one of the two is a filter at hand and the other leads along axes: it goes on from each
     // node once. A step and then the filter, many times, is a step, then the filter and a step many times, and the filter. It is a call
-    // of its own, since its sets would take room beneath rounds too.
+    // of its own, since its sets would take room where the path leads along axes too.
     #[cycle(walk)]
     #[inline(never)]
     fn of_two(
